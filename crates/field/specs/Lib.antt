@@ -1,0 +1,5 @@
+pub mod Meaning
+pub mod Refusals
+pub mod Primes
+pub mod Extensions
+pub mod Made
