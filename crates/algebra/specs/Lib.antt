@@ -1,0 +1,13 @@
+pub mod Codes
+pub mod Settings
+pub mod Ideals
+pub mod Degrees
+pub mod Equivalence
+pub mod Steps
+pub mod Products
+pub mod Places
+pub mod Lines
+pub mod TheoremsOfPolynomials
+pub mod TheoremsOfIdeals
+pub mod TheoremsOfPlaces
+pub mod Worked

@@ -1,0 +1,19 @@
+-- The modules, in the order in which they build on each other.
+pub mod Ring
+pub mod Solver
+pub mod Quote
+pub mod Hypotheses
+pub mod Series
+pub mod Field
+pub mod Coeffs
+pub mod Poly
+pub mod Tops
+pub mod Sizes
+pub mod Divide
+pub mod Derive
+pub mod PolyRing
+pub mod PolyModel
+pub mod Lengths
+pub mod Euclid
+pub mod Order
+pub mod Sets
