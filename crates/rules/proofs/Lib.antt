@@ -1,0 +1,14 @@
+pub mod Answering
+pub mod Written
+pub mod Spelled
+pub mod Offered
+pub mod Openings
+pub mod Agreed
+pub mod Determined
+pub mod Canonical
+pub mod Single
+pub mod Loaded
+pub mod Roots
+pub mod Total
+pub mod Cases
+pub mod Extending
