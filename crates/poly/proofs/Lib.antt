@@ -1,0 +1,11 @@
+pub mod Zeros
+pub mod Bridge
+pub mod Sums
+pub mod Rows
+pub mod Products
+pub mod Quotients
+pub mod Derivatives
+pub mod Monics
+pub mod Euclid
+pub mod Sizes
+pub mod Unique

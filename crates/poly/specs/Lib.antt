@@ -1,0 +1,4 @@
+pub mod Values
+pub mod Signs
+pub mod Rules
+pub mod Rows
