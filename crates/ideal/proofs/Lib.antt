@@ -1,0 +1,10 @@
+pub mod Records
+pub mod Standards
+pub mod Units
+pub mod Quotients
+pub mod Stepping
+pub mod Reducing
+pub mod Rooting
+pub mod Questions
+pub mod Products
+pub mod Multiplying

@@ -1,0 +1,4 @@
+pub mod Values
+pub mod Parts
+pub mod Results
+pub mod Degrees
