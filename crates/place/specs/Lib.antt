@@ -1,0 +1,3 @@
+pub mod Values
+pub mod Results
+pub mod Lessened
