@@ -1,0 +1,4 @@
+pub mod Values
+pub mod Modes
+pub mod Results
+pub mod Places
