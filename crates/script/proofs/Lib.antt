@@ -1,0 +1,5 @@
+pub mod Digits
+pub mod Carrying
+pub mod Grounding
+pub mod Lining
+pub mod Asking

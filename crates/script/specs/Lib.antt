@@ -1,0 +1,6 @@
+pub mod Numbers
+pub mod Lists
+pub mod Grounds
+pub mod Plans
+pub mod Requests
+pub mod Walks
