@@ -2,6 +2,8 @@
 //
 // specs/ holds the definitions that the contracts of other crates cite, and the statements of the theorems; proofs/ holds the
 // theory. The crate computes nothing: each function below names one theorem in its contract, so that the theorem is asked for.
+#![tactic(auto)]
+
 mod ideals;
 mod places;
 mod polynomials;

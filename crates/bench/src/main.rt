@@ -1,6 +1,8 @@
 // The speed of the engine: place n for a number of 32 bytes in a setting of degree 50 over the prime field 10007, and a multiple
 // of its ideal by another such number. Standard input has the number of rounds; what is printed tells only where they ended, so
 // that it can be compared, and time is taken from outside.
+#![tactic(auto)]
+
 use field::Prime;
 use ideal::Setting;
 use place::Place;

@@ -2,6 +2,8 @@
 //
 // `script` has the calls that are to be made and the events that are logged, `calls` makes one call, and `talk` makes the
 // calls of a script and says what agreement makes of their log.
+#![tactic(auto)]
+
 mod calls;
 mod script;
 mod talk;

@@ -3,6 +3,8 @@
 // An end stands over a coefficient field. It is loaded with a setting, opened with a secret, tells its offer, takes the other
 // side's offer and hands out the key. `guard` zeroes secrets, `modes` says which call is allowed when, and each call has a file of
 // its own under `end`.
+#![tactic(auto)]
+
 mod end;
 mod guard;
 mod modes;

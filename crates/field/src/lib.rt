@@ -2,6 +2,8 @@
 //
 // `interface` is the trait that everything above is written over, `prime` and `extension` are the fields that can be made, and
 // `refusal` lists the refusals of all the rules, since the fields are the lowest layer that refuses.
+#![tactic(auto)]
+
 mod extension;
 mod interface;
 mod prime;

@@ -1,5 +1,7 @@
 // The coefficient fields on examples: their laws tried at every code of small fields, and each refusal. A crate of its own,
 // since a crate with tests is proved twice.
+#![tactic(auto)]
+
 #[cfg(test)]
 mod broken;
 #[cfg(test)]

@@ -1,4 +1,6 @@
 // Prints the line of reduced ideals of a setting: d, then an ideal a line, from (1) on, and then the places that are asked for.
+#![tactic(auto)]
+
 use script::{Fault, Placed, Plan, Shown, Walk, read, request_on, text_of};
 use std::io;
 use std::io::Read;

@@ -4,6 +4,8 @@
 // A field of one's own takes three steps: an implementation of `Field`, whose ghost member says what the five answers mean; the proof
 // that each answer is so; and the proof that the meaning keeps the laws, here in the contract of `Nineteen::new`. Whatever is promised
 // of polynomials, places and ends for lawful fields then holds above it, with no further proof.
+#![tactic(auto)]
+
 mod nineteen;
 #[cfg(test)]
 mod tests;

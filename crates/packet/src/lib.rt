@@ -4,6 +4,8 @@
 // reader gives out, `table` takes an entry of the table apart, `reader` puts the questions of a packet, `codes` those of a
 // polynomial's body, `contents` both for a whole setting packet or offer, `writer` writes packets into a lent
 // buffer, and `theorems` names what holds of all packets.
+#![tactic(auto)]
+
 mod body;
 mod codes;
 mod contents;

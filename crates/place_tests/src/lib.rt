@@ -1,6 +1,8 @@
 // Places on examples: sums, finds and multiples beside a walk along the line that takes one baby step after the other, over small
 // settings whose whole ring is gone through, and over settings of degree 50. A crate of its own, since a crate with tests is
 // proved twice.
+#![tactic(auto)]
+
 #[cfg(test)]
 mod bytes;
 #[cfg(test)]

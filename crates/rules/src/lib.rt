@@ -3,6 +3,8 @@
 // Under specs/: `Questions` has questions and the first one with the answer no, `Packets` packets and bodies as bytes, `Settings` accepted
 // settings, `Ends` the calls of an end with their questions and what they leave, `Places` find and add, `Runs` what two ends do
 // between them and what agreement says.
+#![tactic(auto)]
+
 ghost use Rattle.rules.specs.Ends.{Settled};
 ghost use Rattle.rules.specs.Runs.{Agreement};
 

@@ -3,6 +3,8 @@
 // `text` is an input as text, and `fault` says what is wrong with it, and on which line; `words`, `numbers`, `wide` and `codes` take a line apart;
 // `ground` reads the setting that every input names after its field; `plan` is what the program `line` is asked for, `walk`
 // the walk along the line that it prints, and `request` a question about places; `show` writes polynomials.
+#![tactic(auto)]
+
 mod codes;
 mod fault;
 mod ground;
