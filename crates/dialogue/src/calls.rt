@@ -42,7 +42,7 @@ pub fn perform<F: Field>(
     order: Order,
     heap: Global,
 ) -> Result<Event, AllocError>
-    ensures event { MatchResult result (λ ev. (ev.side ≡ side) × Performed (meaning end.old.field) end.old order ev end.new) (λ _. end.new ≡ end.old) }
+    ensures event { MatchResult result (λ ev. (ev.side ≡ side) × Performed (F.meaning end.old.field) end.old order ev end.new) (λ _. end.new ≡ end.old) }
     ensures over { end.new.field ≡ end.old.field }
 {
     match order {

@@ -16,7 +16,7 @@ fn step<F: Field>(
     heap: Global,
 ) -> Result<Event, AllocError>
     ensures side { IfOk result (λ ev. ev.side ≡ line.side) }
-    ensures acts { IfOk result (λ ev. Acts (meaning left.old.field) (meaning right.old.field) line.side line.order ev left.old right.old left.new right.new) }
+    ensures acts { IfOk result (λ ev. Acts (F.meaning left.old.field) (F.meaning right.old.field) line.side line.order ev left.old right.old left.new right.new) }
     ensures over_left { left.new.field ≡ left.old.field }
     ensures over_right { right.new.field ≡ right.old.field }
 {
@@ -40,8 +40,8 @@ pub fn converse<F: Field>(
     heap: Global,
 ) -> Result<Vec<Event>, AllocError>
     ensures logs { IfOk result (λ log. Logs script.items log.items) }
-    ensures agrees { IfOk result (λ log. meaning right.old.field ≡ meaning left.old.field → Converses (meaning left.old.field) left.old right.old script.items log.items left.new right.new) }
-    ensures newly { IfOk result (λ log. meaning right.old.field ≡ meaning left.old.field → ConversesNew (meaning left.old.field) left.old right.old script.items log.items left.new right.new) }
+    ensures agrees { IfOk result (λ log. F.meaning right.old.field ≡ F.meaning left.old.field → Converses (F.meaning left.old.field) left.old right.old script.items log.items left.new right.new) }
+    ensures newly { IfOk result (λ log. F.meaning right.old.field ≡ F.meaning left.old.field → ConversesNew (F.meaning left.old.field) left.old right.old script.items log.items left.new right.new) }
     ensures over_left { left.new.field ≡ left.old.field }
     ensures over_right { right.new.field ≡ right.old.field }
 {

@@ -1,10 +1,9 @@
 // Why a field, a packet, a setting or a call is refused. The rules put their questions in a fixed order, and the first one
 // with the answer no decides: each question has a variant here, with the number that goes out to callers.
-ghost use Rattle.std.specs.Prelude.{◌≡◌, Decides};
+ghost use Rattle.std.specs.Prelude.{◌≡◌, Decides, ◌==◌};
 ghost use Rattle.field.specs.Refusals.{refusal_number};
 ghost use Rattle.std.specs.Cmp.Rules.{comparing};
 ghost use Rattle.std.proofs.Common.{rules};
-ghost use Rattle.std.specs.Cmp as Keys;
 
 use std::fmt;
 

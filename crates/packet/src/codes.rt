@@ -56,8 +56,8 @@ fn stored(body: &[u8]) -> Option<Poly>
 // The polynomial of a body, over the field `f`. A body of more codes than a record holds is asked the same questions; where it
 // passes them the answer is `None`: a polynomial of degree 128 or more, which is for the caller's own question of degree.
 pub fn read_poly<F: Field>(f: &F, body: &[u8]) -> Result<Option<Poly>, Refusal>
-    ensures answers { Answered (body_asks (meaning f.now).size body.now) (answer_of result) }
-    ensures reading { IfOk result (λ p. Reading (meaning f.now) body.now p) }
+    ensures answers { Answered (body_asks (F.meaning f.now).size body.now) (answer_of result) }
+    ensures reading { IfOk result (λ p. Reading (F.meaning f.now) body.now p) }
 {
     ask(f.size(), body)?;
     Ok(stored(body))

@@ -23,8 +23,8 @@ fn is_size(q: u32, body: &[u8]) -> bool
 
 // The polynomial D of a setting packet for the field `f`; `None` where it has more codes than a record holds.
 pub fn read_setting<F: Field>(f: &F, packet: &[u8]) -> Result<Option<Poly>, Refusal>
-    ensures answers { Answered (setting_asked (meaning f.now).size packet.now) (answer_of result) }
-    ensures reading { IfOk result (λ d. Reading (meaning f.now) (body_at packet.now second) d) }
+    ensures answers { Answered (setting_asked (F.meaning f.now).size packet.now) (answer_of result) }
+    ensures reading { IfOk result (λ d. Reading (F.meaning f.now) (body_at packet.now second) d) }
 {
     let (size, d) = read(Sort::Setting, packet)?;
     if !is_size(f.size(), size.bytes()) {
@@ -35,8 +35,8 @@ pub fn read_setting<F: Field>(f: &F, packet: &[u8]) -> Result<Option<Poly>, Refu
 
 // The polynomials Q and P of an offer over the field `f`; `None` for one that has more codes than a record holds.
 pub fn read_offer<F: Field>(f: &F, packet: &[u8]) -> Result<(Option<Poly>, Option<Poly>), Refusal>
-    ensures answers { Answered (offer_asked (meaning f.now).size packet.now) (answer_of result) }
-    ensures reading { IfOk result (λ o. Reading (meaning f.now) (body_at packet.now first) o.0 × Reading (meaning f.now) (body_at packet.now second) o.1) }
+    ensures answers { Answered (offer_asked (F.meaning f.now).size packet.now) (answer_of result) }
+    ensures reading { IfOk result (λ o. Reading (F.meaning f.now) (body_at packet.now first) o.0 × Reading (F.meaning f.now) (body_at packet.now second) o.1) }
 {
     let (q, p) = read(Sort::Offer, packet)?;
     let q = read_poly(f, q.bytes())?;

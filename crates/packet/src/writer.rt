@@ -104,9 +104,9 @@ fn write<A: Content, B: Content>(
 
 // Writes the setting packet of the field `f` and the polynomial `d`, and answers its length.
 pub fn write_setting<F: Field>(f: &F, d: &Poly, out: &mut [u8]) -> Result<usize, Refusal>
-    ensures bytes { Written (packet 1 2 (four (meaning f.now).size) (spell (codes_down d.now))) out.old out.new result }
-    ensures values { WritesSetting (meaning f.now) d.now out.old out.new result }
-    ensures back { IfOk result (λ n. SettingBack (meaning f.now) d.now (take n out.new)) }
+    ensures bytes { Written (packet 1 2 (four (F.meaning f.now).size) (spell (codes_down d.now))) out.old out.new result }
+    ensures values { WritesSetting (F.meaning f.now) d.now out.old out.new result }
+    ensures back { IfOk result (λ n. SettingBack (F.meaning f.now) d.now (take n out.new)) }
 {
     write(Sort::Setting, &f.size(), d, out)
 }

@@ -10,7 +10,7 @@ use poly::Poly;
 // The polynomial of these codes, or the first question with the answer no: 15 every code is below the field's size, 16 the
 // first code is not 0.
 fn polynomial<F: Field>(f: &F, codes: &Codes) -> Result<Poly, Refusal>
-    ensures { PolynomialRead (meaning f.now).size (code_list codes.now) result }
+    ensures { PolynomialRead (F.meaning f.now).size (code_list codes.now) result }
 {
     let size = f.size();
     let list = codes.as_slice();
@@ -27,7 +27,7 @@ fn polynomial<F: Field>(f: &F, codes: &Codes) -> Result<Poly, Refusal>
 
 // The setting whose D has these codes, or the first question with the answer no: those of the codes come first.
 pub(crate) fn setting<F: Field>(f: &F, codes: &Codes) -> Result<Setting, Refusal>
-    ensures { SettingRead (meaning f.now) (code_list codes.now) result }
+    ensures { SettingRead (F.meaning f.now) (code_list codes.now) result }
 {
     let radicand = polynomial(f, codes)?;
     Setting::new(f, &radicand)

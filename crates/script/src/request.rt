@@ -20,14 +20,14 @@ pub enum Request {
 
 // Place n.
 fn found<F: Field>(f: &F, setting: &Setting, n: &Wide) -> Place
-    ensures { AnswersTo (meaning f.now) setting.now (Request.Find n.now) result }
+    ensures { AnswersTo (F.meaning f.now) setting.now (Request.Find n.now) result }
 {
     Place::find(f, setting, n.as_slice())
 }
 
 // The sum of place s and place t.
 fn sum<F: Field>(f: &F, setting: &Setting, s: &Wide, t: &Wide) -> Place
-    ensures { AnswersTo (meaning f.now) setting.now (Request.Add s.now t.now) result }
+    ensures { AnswersTo (F.meaning f.now) setting.now (Request.Add s.now t.now) result }
 {
     let other = found(f, setting, t);
     found(f, setting, s).add(f, setting, &other)
@@ -35,7 +35,7 @@ fn sum<F: Field>(f: &F, setting: &Setting, s: &Wide, t: &Wide) -> Place
 
 // n times place t.
 fn multiple<F: Field>(f: &F, setting: &Setting, n: &Wide, t: &Wide) -> Place
-    ensures { AnswersTo (meaning f.now) setting.now (Request.Multiple n.now t.now) result }
+    ensures { AnswersTo (F.meaning f.now) setting.now (Request.Multiple n.now t.now) result }
 {
     found(f, setting, t).multiple(f, setting, n.as_slice())
 }
@@ -43,7 +43,7 @@ fn multiple<F: Field>(f: &F, setting: &Setting, n: &Wide, t: &Wide) -> Place
 impl Request {
     // The place that is asked for.
     pub fn place<F: Field>(&self, f: &F, setting: &Setting) -> Place
-        ensures { Asked (meaning f.now) setting.now self.now result }
+        ensures { Asked (F.meaning f.now) setting.now self.now result }
     {
         match *self {
             Request::Find(n) => found(f, setting, &n),

@@ -24,7 +24,7 @@ impl<F: Field> End<F> {
 
     // An open or keyed end becomes ready, and its own distance, ideal and key zero. A blank or ready end stays as it is.
     pub fn close(&mut self)
-        ensures follows { Closes (meaning self.old.field) self.old self.new }
+        ensures follows { Closes (F.meaning self.old.field) self.old self.new }
         ensures over { self.new.field ≡ self.old.field }
         ensures mode { self.new.mode ≡ closed_mode self.old.mode }
         ensures cleared { Cleared self.old self.new }

@@ -10,7 +10,7 @@ use ideal::Setting;
 
 // The setting of a packet, or the first of its questions with the answer no.
 fn read_setting<F: Field>(f: &F, bytes: &[u8]) -> Result<Setting, Refusal>
-    ensures { SettingRead (meaning f.now) bytes.now result }
+    ensures { SettingRead (F.meaning f.now) bytes.now result }
 {
     match packet::read_setting(f, bytes)? {
         Some(radicand) => Setting::new(f, &radicand),
@@ -23,7 +23,7 @@ impl<F: Field> End<F> {
     // Makes a blank or ready end ready with the setting of a packet.
     fn load_setting(&mut self, bytes: &[u8]) -> Result<(), Refusal>
         requires { InBlankOrReady self.old.mode }
-        ensures follows { Loads (meaning self.old.field) self.old bytes.now result self.new }
+        ensures follows { Loads (F.meaning self.old.field) self.old bytes.now result self.new }
         ensures rest { OnlyMode self.old self.new }
         ensures unchanged { Unchanged self.old self.new result }
     {
@@ -35,7 +35,7 @@ impl<F: Field> End<F> {
     // Takes a setting packet; the end is then ready. 30: is the end blank or ready? Then the questions of the packet, of the
     // field's size and of the setting.
     pub fn load(&mut self, bytes: &[u8]) -> Result<(), Refusal>
-        ensures follows { Loads (meaning self.old.field) self.old bytes.now result self.new }
+        ensures follows { Loads (F.meaning self.old.field) self.old bytes.now result self.new }
         ensures rest { OnlyMode self.old self.new }
         ensures unchanged { Unchanged self.old self.new result }
         ensures asked { Asked (InBlankOrReady self.old.mode) InUse result }

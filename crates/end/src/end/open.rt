@@ -43,7 +43,7 @@ impl<F: Field> End<F> {
 
     // What open does but for the guard. It reads the secret and leaves it as it is: the zeros in the contract are the guard's.
     fn open_with(&mut self, secret: &[u8]) -> Result<(), Refusal>
-        ensures follows { Opens (meaning self.old.field) self.old secret.now result (replicate (length secret.now) 0) self.new }
+        ensures follows { Opens (F.meaning self.old.field) self.old secret.now result (replicate (length secret.now) 0) self.new }
         ensures rest { NotTheKey self.old self.new }
         ensures unchanged { Unchanged self.old self.new result }
         ensures asked { Asked (InReady self.old.mode) NotReady result }
@@ -66,7 +66,7 @@ impl<F: Field> End<F> {
     // secret less the offset. 31: is the end ready? 32: has the secret 1 to 32 bytes? 33: is its ideal other than (1)?
     // The secret's bytes are zero on every way out.
     pub fn open(&mut self, secret: &mut [u8]) -> Result<(), Refusal>
-        ensures follows { Opens (meaning self.old.field) self.old secret.old result secret.new self.new }
+        ensures follows { Opens (F.meaning self.old.field) self.old secret.old result secret.new self.new }
         ensures zero { secret.new ≡ replicate (length secret.old) 0 }
         ensures rest { NotTheKey self.old self.new }
         ensures unchanged { Unchanged self.old self.new result }

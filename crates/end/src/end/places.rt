@@ -17,7 +17,7 @@ use poly::Poly;
 
 // Whether every code of the polynomial is one of the field's.
 fn in_field<F: Field>(f: &F, p: &Poly) -> bool
-    ensures { Decides result (All (λ c. c < (meaning f.now).size) (codes_down p.now)) }
+    ensures { Decides result (All (λ c. c < (F.meaning f.now).size) (codes_down p.now)) }
 {
     for i in 0..p.len() {
         if p.coeff(i) >= f.size() {
@@ -29,7 +29,7 @@ fn in_field<F: Field>(f: &F, p: &Poly) -> bool
 
 // The place that is claimed, or the first of its questions with the answer no.
 fn read_place<F: Field>(f: &F, setting: &Setting, given: &GivenPlace) -> Result<Place, Refusal>
-    ensures { PlaceRead (meaning f.now) setting.now given.now result }
+    ensures { PlaceRead (F.meaning f.now) setting.now given.now result }
 {
     if !in_field(f, &given.q) {
         return Err(Refusal::CodeTooLarge);
@@ -45,7 +45,7 @@ impl<F: Field> End<F> {
     // Place n of the setting that is loaded.
     fn find_place(&self, number: &[u8]) -> Result<Place, Refusal>
         requires { InLoaded self.now.mode }
-        ensures finds { Finds (meaning self.now.field) self.now number.now result }
+        ensures finds { Finds (F.meaning self.now.field) self.now number.now result }
         ensures sized { Asked (OneTo32 number.now) WrongSecretLength result }
     {
         let setting = self.mode.setting()?;
@@ -58,8 +58,8 @@ impl<F: Field> End<F> {
     // The sum of two places of the setting that is loaded.
     fn add_places(&self, first: &GivenPlace, second: &GivenPlace) -> Result<Place, Refusal>
         requires { InLoaded self.now.mode }
-        ensures adds { Adds (meaning self.now.field) self.now first.now second.now result }
-        ensures line { AddsOnLine (meaning self.now.field) self.now first.now second.now result }
+        ensures adds { Adds (F.meaning self.now.field) self.now first.now second.now result }
+        ensures line { AddsOnLine (F.meaning self.now.field) self.now first.now second.now result }
     {
         let setting = self.mode.setting()?;
         let first = read_place(&self.field, &setting, first)?;
@@ -69,7 +69,7 @@ impl<F: Field> End<F> {
 
     // Place n, where `number` is n with its high byte first. 38: is a setting loaded? 32: has the number 1 to 32 bytes?
     pub fn find(&self, number: &[u8]) -> Result<Place, Refusal>
-        ensures finds { Finds (meaning self.now.field) self.now number.now result }
+        ensures finds { Finds (F.meaning self.now.field) self.now number.now result }
         ensures asked { Asked (InLoaded self.now.mode) NotLoaded result }
         ensures sized { InLoaded self.now.mode → Asked (OneTo32 number.now) WrongSecretLength result }
     {
@@ -79,8 +79,8 @@ impl<F: Field> End<F> {
 
     // The sum of two places. 38: is a setting loaded? Then the questions of the first place, and those of the second.
     pub fn add(&self, first: &GivenPlace, second: &GivenPlace) -> Result<Place, Refusal>
-        ensures adds { Adds (meaning self.now.field) self.now first.now second.now result }
-        ensures line { AddsOnLine (meaning self.now.field) self.now first.now second.now result }
+        ensures adds { Adds (F.meaning self.now.field) self.now first.now second.now result }
+        ensures line { AddsOnLine (F.meaning self.now.field) self.now first.now second.now result }
         ensures asked { Asked (InLoaded self.now.mode) NotLoaded result }
     {
         allowed(self.mode, Request::Add)?;

@@ -11,7 +11,7 @@ use place::Place;
 
 // The ideal of an offer, or the first of its questions with the answer no.
 fn read_offer<F: Field>(f: &F, setting: &Setting, bytes: &[u8]) -> Result<Ideal, Refusal>
-    ensures { OfferRead (meaning f.now) setting.now bytes.now result }
+    ensures { OfferRead (F.meaning f.now) setting.now bytes.now result }
 {
     let (q, p) = packet::read_offer(f, bytes)?;
     let Some(q) = q else {
@@ -29,7 +29,7 @@ impl<F: Field> End<F> {
     // What take does with an open end.
     fn take_offer(&mut self, bytes: &[u8]) -> Result<(), Refusal>
         requires { InOpen self.old.mode }
-        ensures follows { Takes (meaning self.old.field) self.old bytes.now result self.new }
+        ensures follows { Takes (F.meaning self.old.field) self.old bytes.now result self.new }
         ensures rest { OnlyTheKey self.old self.new }
         ensures unchanged { Unchanged self.old self.new result }
     {
@@ -52,7 +52,7 @@ impl<F: Field> End<F> {
     // ideal other than (1)? The key is the ideal of the multiple of that ideal, at offset 0, by the own distance. 45: is the
     // key other than (1)?
     pub fn take(&mut self, bytes: &[u8]) -> Result<(), Refusal>
-        ensures follows { Takes (meaning self.old.field) self.old bytes.now result self.new }
+        ensures follows { Takes (F.meaning self.old.field) self.old bytes.now result self.new }
         ensures rest { OnlyTheKey self.old self.new }
         ensures unchanged { Unchanged self.old self.new result }
         ensures asked { Asked (InOpen self.old.mode) NotOpen result }

@@ -14,7 +14,7 @@ const MOST: u64 = 2147483647;
 impl<F: Field + Drop> Extension<F> {
     // The extension of the base by a square root of n, which must have none in the base. It is lawful if the base is.
     pub fn new(base: F, n: u32) -> Result<Extension<F>, Refusal>
-        ensures { MatchResult result (λ e. Extends (meaning base) n × (extension_meaning meaning e ≡ extended (meaning base) n) × (Lawful (meaning base) → Lawful (extension_meaning meaning e))) (λ e. Refuses (meaning base) n e) }
+        ensures { MatchResult result (λ e. Extends (F.meaning base) n × (extension_meaning F.meaning e ≡ extended (F.meaning base) n) × (Lawful (F.meaning base) → Lawful (extension_meaning F.meaning e))) (λ e. Refuses (F.meaning base) n e) }
     {
         let q = base.size();
         if q as u64 * q as u64 > MOST {

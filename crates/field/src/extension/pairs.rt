@@ -22,7 +22,7 @@ fn pack(q: u32, a: u32, b: u32) -> u32
 
 pub(super) fn add<F: Field>(base: &F, q: u32, a: u32, b: u32) -> u32
     requires { q * q ≤ 2147483647 }
-    ensures { result ≡ ext_sum (meaning base.now) q a b }
+    ensures { result ≡ ext_sum (F.meaning base.now) q a b }
 {
     if a >= q * q {
         return 0;
@@ -37,7 +37,7 @@ pub(super) fn add<F: Field>(base: &F, q: u32, a: u32, b: u32) -> u32
 
 pub(super) fn neg<F: Field>(base: &F, q: u32, a: u32) -> u32
     requires { q * q ≤ 2147483647 }
-    ensures { result ≡ ext_opposite (meaning base.now) q a }
+    ensures { result ≡ ext_opposite (F.meaning base.now) q a }
 {
     if a >= q * q {
         return 0;
@@ -49,7 +49,7 @@ pub(super) fn neg<F: Field>(base: &F, q: u32, a: u32) -> u32
 
 pub(super) fn mul<F: Field>(base: &F, q: u32, n: u32, a: u32, b: u32) -> u32
     requires { q * q ≤ 2147483647 }
-    ensures { result ≡ ext_product (meaning base.now) q n a b }
+    ensures { result ≡ ext_product (F.meaning base.now) q n a b }
 {
     if a >= q * q {
         return 0;
@@ -66,7 +66,7 @@ pub(super) fn mul<F: Field>(base: &F, q: u32, n: u32, a: u32, b: u32) -> u32
 // The product of x + y w with x - y w is the norm, an element of the field below, and its inverse times x - y w is the answer.
 pub(super) fn inv<F: Field>(base: &F, q: u32, n: u32, a: u32) -> Option<u32>
     requires { q * q ≤ 2147483647 }
-    ensures { result ≡ ext_inverse (meaning base.now) q n a }
+    ensures { result ≡ ext_inverse (F.meaning base.now) q n a }
 {
     if a >= q * q {
         return None;

@@ -69,7 +69,7 @@ impl Ideal {
     // The reduced ideal (Q, P), or the first question with the answer no: 40 Q has a degree from 0 to m − 1, 41 Q is monic,
     // 42 P has lower degree than Q, 43 Q divides D − P.P.
     pub fn new<F: Field>(f: &F, setting: &Setting, q: &Poly, p: &Poly) -> Result<Ideal, Refusal>
-        ensures made { IdealMade (meaning f.now) setting.now q.now p.now result }
+        ensures made { IdealMade (F.meaning f.now) setting.now q.now p.now result }
         ensures same { MatchResult result (λ a. (a.q ≡ q.now) × (a.p ≡ p.now)) (λ _. Unit) }
     {
         let len = q.len();
@@ -99,7 +99,7 @@ impl Ideal {
 
     // The standard form of (Q, P): Q made monic, P replaced by its remainder by Q.
     pub(crate) fn standard<F: Field>(f: &F, q: &Poly, p: &Poly) -> Ideal
-        ensures { Standardized (meaning f.now) q.now p.now result }
+        ensures { Standardized (F.meaning f.now) q.now p.now result }
     {
         let q = q.monic(f);
         let (_, p) = p.div_rem(f, &q);

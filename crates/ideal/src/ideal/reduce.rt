@@ -12,7 +12,7 @@ use field::Field;
 impl Ideal {
     // The next ideal, and what is saved up to it.
     fn shortened<F: Field>(&self, f: &F, setting: &Setting, saved: usize) -> (Ideal, usize)
-        ensures { (a : Ideal) (i : ℕ) → Came (meaning f.now) setting.now a self.now i saved → setting.now.half < size self.now.q → Came (meaning f.now) setting.now a result.0 (i + 1) result.1 }
+        ensures { (a : Ideal) (i : ℕ) → Came (F.meaning f.now) setting.now a self.now i saved → setting.now.half < size self.now.q → Came (F.meaning f.now) setting.now a result.0 (i + 1) result.1 }
     {
         let (next, far) = self.step(f, setting);
         let short = self.q.len().saturating_sub(far);
@@ -22,7 +22,7 @@ impl Ideal {
     // Baby steps until Q has degree below m, and the sum of their lengths, none of which is positive, with the sign changed.
     // A product of reduced ideals takes at most m / 2 of them.
     pub fn reduce<F: Field>(&self, f: &F, setting: &Setting) -> (Ideal, usize)
-        ensures { Reduced (meaning f.now) setting.now self.now result.0 result.1 }
+        ensures { Reduced (F.meaning f.now) setting.now self.now result.0 result.1 }
     {
         let half = setting.half();
         let mut ideal = *self;

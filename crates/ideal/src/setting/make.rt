@@ -28,7 +28,7 @@ fn monomial(c: u32, i: usize) -> Poly
 // d, filled from the top: with the terms above x^i in place, the coefficient of x^(m+i) in D − d·d is twice the one wanted.
 fn root<F: Field>(f: &F, radicand: &Poly, half: usize) -> Poly
     requires { half ≤ 25 }
-    ensures { (L : Lawful (meaning f.now)) (A : Accepted L) → Is L radicand.now A.D → half ≡ A.m → Is L result A.d }
+    ensures { (L : Lawful (F.meaning f.now)) (A : Accepted L) → Is L radicand.now A.D → half ≡ A.m → Is L result A.d }
 {
     let half_of_one = Poly::constant(f.add(1, 1)).top_inverse(f);
     let mut d = monomial(1, half);
@@ -45,7 +45,7 @@ impl Setting {
     // The setting of D, or the first question with the answer no: 21 the degree is even and from 4 to 50, 22 D is monic,
     // 23 D and its derivative have no common factor.
     pub fn new<F: Field>(f: &F, radicand: &Poly) -> Result<Setting, Refusal>
-        ensures made { SettingMade (meaning f.now) radicand.now result }
+        ensures made { SettingMade (F.meaning f.now) radicand.now result }
         ensures degree { DegreeAsked radicand.now result }
     {
         if !has_even_degree(radicand) {

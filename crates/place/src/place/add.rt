@@ -10,7 +10,7 @@ use ideal::Setting;
 // One step of a walk, where the offset is the gap that is left: the next ideal, with the gap lessened by the length of the step.
 // There is none where the gap is below that length; a gap equal to it takes the step.
 fn pace<F: Field>(f: &F, setting: &Setting, place: &Place) -> Option<Place>
-    ensures { Paced (meaning f.now) setting.now place.now result }
+    ensures { Paced (F.meaning f.now) setting.now place.now result }
 {
     let length = step_length(setting, &place.ideal);
     if place.offset < length {
@@ -26,7 +26,7 @@ fn pace<F: Field>(f: &F, setting: &Setting, place: &Place) -> Option<Place>
 // The walk from a reduced ideal over a gap, given as the offset. Each step takes at least 1 from the gap, and no gap between two
 // places is above 4·m.
 fn walk<F: Field>(f: &F, setting: &Setting, start: &Place) -> Place
-    ensures { Walked (meaning f.now) setting.now start.now result }
+    ensures { Walked (F.meaning f.now) setting.now start.now result }
 {
     let mut place = *start;
     for _turn in 0..4 * setting.half() {
@@ -47,8 +47,8 @@ fn offsets(a: &Place, b: &Place, more: usize) -> usize
 
 // The sum of two places with a gap that is greater by `more`.
 pub(crate) fn sum<F: Field>(f: &F, setting: &Setting, a: &Place, b: &Place, more: usize) -> Place
-    ensures sums { Summed (meaning f.now) setting.now a.now b.now more result }
-    ensures line { SummedAt (meaning f.now) setting.now a.now b.now more result }
+    ensures sums { Summed (F.meaning f.now) setting.now a.now b.now more result }
+    ensures line { SummedAt (F.meaning f.now) setting.now a.now b.now more result }
 {
     let giant = GiantStep::new(f, setting, &a.ideal, &b.ideal);
     let offset = giant.gap(offsets(a, b, more));
@@ -65,8 +65,8 @@ pub(crate) fn sum<F: Field>(f: &F, setting: &Setting, a: &Place, b: &Place, more
 impl Place {
     // The sum of two places: of place s and place t it is place s + t.
     pub fn add<F: Field>(&self, f: &F, setting: &Setting, other: &Place) -> Place
-        ensures sums { Added (meaning f.now) setting.now self.now other.now result }
-        ensures line { AddedAt (meaning f.now) setting.now self.now other.now result }
+        ensures sums { Added (F.meaning f.now) setting.now self.now other.now result }
+        ensures line { AddedAt (F.meaning f.now) setting.now self.now other.now result }
     {
         sum(f, setting, self, other, 0)
     }

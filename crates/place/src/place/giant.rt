@@ -7,7 +7,7 @@ use ideal::{Ideal, Setting};
 
 impl GiantStep {
     pub fn new<F: Field>(f: &F, setting: &Setting, a: &Ideal, b: &Ideal) -> GiantStep
-        ensures { GiantMade (meaning f.now) setting.now a.now b.now result }
+        ensures { GiantMade (F.meaning f.now) setting.now a.now b.now result }
     {
         let (whole, divisor) = a.product(f, setting, b);
         let (ideal, saved) = whole.reduce(f, setting);

@@ -17,7 +17,7 @@ fn twice<F: Field>(
     more: u8,
 ) -> Option<Place>
     requires { more ≤ 1 }
-    ensures { Raised (meaning f.now) setting.now place.now 2 more multiple result }
+    ensures { Raised (F.meaning f.now) setting.now place.now 2 more multiple result }
 {
     match multiple {
         Some(m) => {
@@ -40,7 +40,7 @@ fn through_byte<F: Field>(
     multiple: Option<Place>,
     byte: u8,
 ) -> Option<Place>
-    ensures { Raised (meaning f.now) setting.now place.now 256 byte multiple result }
+    ensures { Raised (F.meaning f.now) setting.now place.now 256 byte multiple result }
 {
     let mut found = multiple;
     for k in (0..8u32).rev() {
@@ -61,7 +61,7 @@ fn or_origin(multiple: Option<Place>) -> Place
 
 // The digits of all bytes, the highest first, with nothing there at the start.
 fn through<F: Field>(f: &F, setting: &Setting, place: &Place, bytes: &[u8]) -> Place
-    ensures { Repeated (meaning f.now) setting.now place.now bytes.now result }
+    ensures { Repeated (F.meaning f.now) setting.now place.now bytes.now result }
 {
     let mut found = None;
     for byte in bytes {
@@ -73,7 +73,7 @@ fn through<F: Field>(f: &F, setting: &Setting, place: &Place, bytes: &[u8]) -> P
 impl Place {
     // n times this place, where `number` is n with the high byte first; place 0 where n is 0.
     pub fn multiple<F: Field>(&self, f: &F, setting: &Setting, number: &[u8]) -> Place
-        ensures { Repeated (meaning f.now) setting.now self.now number.now result }
+        ensures { Repeated (F.meaning f.now) setting.now self.now number.now result }
     {
         through(f, setting, self, number)
     }

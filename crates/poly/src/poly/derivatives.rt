@@ -6,7 +6,7 @@ use super::make::normal;
 use field::Field;
 
 fn derived<F: Field>(f: &F, a: &Poly) -> Poly
-    ensures { Derivative (meaning f.now) a.now result }
+    ensures { Derivative (F.meaning f.now) a.now result }
 {
     let end = a.raw.len.saturating_sub(1);
     let mut coeffs = [0u32; 128];
@@ -20,7 +20,7 @@ fn derived<F: Field>(f: &F, a: &Poly) -> Poly
 
 impl Poly {
     pub fn derivative<F: Field>(&self, f: &F) -> Poly
-        ensures { Derivative (meaning f.now) self.now result }
+        ensures { Derivative (F.meaning f.now) self.now result }
     {
         derived(f, self)
     }

@@ -6,7 +6,7 @@ use super::Poly;
 use field::Field;
 
 fn euclid<F: Field>(f: &F, a: &Poly, b: &Poly) -> (Poly, Poly, Poly)
-    ensures { Common (meaning f.now) a.now b.now result.0 result.1 result.2 }
+    ensures { Common (F.meaning f.now) a.now b.now result.0 result.1 result.2 }
 {
     let mut r0 = *a;
     let mut r1 = *b;
@@ -32,7 +32,7 @@ fn euclid<F: Field>(f: &F, a: &Poly, b: &Poly) -> (Poly, Poly, Poly)
 impl Poly {
     // The multipliers p and q, and the greatest common divisor g = p self + q other, which is monic; 0 where both are 0.
     pub fn gcd<F: Field>(&self, f: &F, other: &Poly) -> (Poly, Poly, Poly)
-        ensures { Common (meaning f.now) self.now other.now result.0 result.1 result.2 }
+        ensures { Common (F.meaning f.now) self.now other.now result.0 result.1 result.2 }
     {
         euclid(f, self, other)
     }

@@ -5,7 +5,7 @@ use super::Poly;
 use field::Field;
 
 fn made_monic<F: Field>(f: &F, a: &Poly) -> Poly
-    ensures { Monic (meaning f.now) a.now result }
+    ensures { Monic (F.meaning f.now) a.now result }
 {
     a.scale(f, a.top_inverse(f))
 }
@@ -13,7 +13,7 @@ fn made_monic<F: Field>(f: &F, a: &Poly) -> Poly
 impl Poly {
     // The inverse of the leading coefficient; 1 for 0, which has none.
     pub fn top_inverse<F: Field>(&self, f: &F) -> u32
-        ensures { TopInverse (meaning f.now) self.now result }
+        ensures { TopInverse (F.meaning f.now) self.now result }
     {
         if self.raw.len == 0 {
             return 1;
@@ -26,7 +26,7 @@ impl Poly {
 
     // The multiple by a constant whose leading coefficient is 1; 0 for 0.
     pub fn monic<F: Field>(&self, f: &F) -> Poly
-        ensures { Monic (meaning f.now) self.now result }
+        ensures { Monic (F.meaning f.now) self.now result }
     {
         made_monic(f, self)
     }

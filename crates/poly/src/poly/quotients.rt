@@ -14,7 +14,7 @@ use field::Field;
 fn divide<F: Field>(f: &F, a: &Poly, b: &Poly) -> (Poly, Poly)
     ensures less { 0 < size b.now → size result.1 < size b.now }
     ensures undivided { size b.now ≡ 0 → Undivided a.now result.0 result.1 }
-    ensures is { Division (meaning f.now) a.now b.now result.0 result.1 }
+    ensures is { Division (F.meaning f.now) a.now b.now result.0 result.1 }
 {
     if b.raw.len == 0 {
         return (Poly::zero(), *a);
@@ -41,7 +41,7 @@ impl Poly {
     pub fn div_rem<F: Field>(&self, f: &F, divisor: &Poly) -> (Poly, Poly)
         ensures less { 0 < size divisor.now → size result.1 < size divisor.now }
         ensures undivided { size divisor.now ≡ 0 → Undivided self.now result.0 result.1 }
-        ensures is { Division (meaning f.now) self.now divisor.now result.0 result.1 }
+        ensures is { Division (F.meaning f.now) self.now divisor.now result.0 result.1 }
     {
         divide(f, self, divisor)
     }

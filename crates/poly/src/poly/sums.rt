@@ -7,7 +7,7 @@ use field::Field;
 
 impl Poly {
     pub fn add<F: Field>(&self, f: &F, other: &Poly) -> Poly
-        ensures { Sum (meaning f.now) self.now other.now result }
+        ensures { Sum (F.meaning f.now) self.now other.now result }
     {
         let n = self.raw.len.max(other.raw.len);
         let mut coeffs = [0u32; 128];
@@ -18,7 +18,7 @@ impl Poly {
     }
 
     pub fn neg<F: Field>(&self, f: &F) -> Poly
-        ensures { Opposite (meaning f.now) self.now result }
+        ensures { Opposite (F.meaning f.now) self.now result }
     {
         let n = self.raw.len;
         let mut coeffs = [0u32; 128];
@@ -29,7 +29,7 @@ impl Poly {
     }
 
     pub fn sub<F: Field>(&self, f: &F, other: &Poly) -> Poly
-        ensures { Difference (meaning f.now) self.now other.now result }
+        ensures { Difference (F.meaning f.now) self.now other.now result }
     {
         let n = self.raw.len.max(other.raw.len);
         let mut coeffs = [0u32; 128];
@@ -41,7 +41,7 @@ impl Poly {
 
     // The multiple by the constant c.
     pub fn scale<F: Field>(&self, f: &F, c: u32) -> Poly
-        ensures { Scaled (meaning f.now) c self.now result }
+        ensures { Scaled (F.meaning f.now) c self.now result }
     {
         let n = self.raw.len;
         let mut coeffs = [0u32; 128];

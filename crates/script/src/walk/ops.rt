@@ -26,7 +26,7 @@ impl Stop {
     // One step further. The sums stop at the end of their types, which is too far for any walk.
     pub(crate) fn next<F: Field>(&self, f: &F, setting: &Setting) -> Stop
         ensures index { result.index ≡ min (self.now.index + 1) (2 ^ 32 - 1) }
-        ensures line { self.now.index + 1 < 2 ^ 32 → OnLine (meaning f.now) setting.now self.now → OnLine (meaning f.now) setting.now result }
+        ensures line { self.now.index + 1 < 2 ^ 32 → OnLine (F.meaning f.now) setting.now self.now → OnLine (F.meaning f.now) setting.now result }
     {
         let (ideal, far) = self.ideal.step(f, setting);
         let length = far.saturating_sub(self.ideal.q().len());

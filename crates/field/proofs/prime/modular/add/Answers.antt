@@ -3,8 +3,8 @@ use Rattle.field.proofs.Primality.{listed_prime}
 use Rattle.field.proofs.PrimeLaws.{sum_out, sum_below, sum_above}
 use Rattle.field.proofs.prime.modular.add.Goals as goal
 
-pub overflow-add-sum : goal.overflow-add-sum
-overflow-add-sum c = omega (arith, (listed_prime _ c.requires).high)
+pub overflow_add-sum : goal.overflow_add-sum
+overflow_add-sum c = omega (arith, (listed_prime _ c.requires).high)
 
 pub returns-then-a-p : goal.returns-then-a-p
 returns-then-a-p c = sym ((sum_out _ _ _).0 (omega arith))
