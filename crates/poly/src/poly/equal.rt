@@ -1,17 +1,23 @@
 // Equality. A polynomial has one record, so equal polynomials are those with equal coefficients.
-ghost use Rattle.std.specs.Prelude.{◌≡◌, Decides};
-ghost use Rattle.poly.specs.Rules.{Same};
+ghost use Rattle.std.specs.Prelude.{◌≡◌, Decides, nat_eq};
+ghost use Rattle.std.specs.Cmp.Lexicographic.{pointwise};
 ghost use Rattle.std.specs.Cmp.Rules.{comparing};
-ghost use Rattle.std.proofs.Common.{rules, arith};
+ghost use Rattle.std.specs.Ordering.{on};
+ghost use Rattle.std.proofs.Common.{rules};
+ghost use Rattle.poly.specs.Rules.{Same};
 
 use super::Poly;
 
 impl PartialEq for Poly {
-    ghost equals = { λ x y r. Decides r (x.raw.coeffs ≡ y.raw.coeffs) × Same x y r };
+    ghost eq = { on (λ p. p.raw.coeffs) (pointwise nat_eq) };
 
-    ghost laws = { first_of (Prim.search (comparing, rules), Prim.grind (arith, Self.row.coded.inj)) };
+    ghost laws = { Prim.search (comparing, rules) };
 
-    fn eq(&self, other: &Poly) -> bool {
+    fn eq(&self, other: &Poly) -> bool
+        ensures value { result ≡ pointwise nat_eq self.now.raw.coeffs other.now.raw.coeffs }
+        ensures decides { Decides result (self.now.raw.coeffs ≡ other.now.raw.coeffs) }
+        ensures same { Same self.now other.now result }
+    {
         if self.raw.len != other.raw.len {
             return false;
         }

@@ -9,7 +9,7 @@ unfolding times
 loop-k-init g c = (refl, refl, (λ j h. absurd (omega arith)), (λ j h. zeros 128 j))
 
 pub returns : goal.returns
-returns g c = derivative_is (g.F.Field.meaning c.args.f.now) c.args.a.now c.normal.result c.saturating-sub-end.result (omega arith)
+returns g c = derivative_is (g.F.Field.meaning c.args.f.now) c.args.a.now c.normal.result c.saturating_sub-end.result (omega arith)
     (λ k h. ap (λ xs. get_or xs k 0) c.normal.ensures ∙ c.loop-k.invariant.2 k (omega arith))
     (λ k h. ap (λ xs. get_or xs k 0) c.normal.ensures ∙ c.loop-k.invariant.3 k (omega arith))
 

@@ -8,9 +8,9 @@ loop-r1-init g c = λ L x y hx hy. start L x y _ _ hx hy refl refl
 
 pub loop-r1-preserved : goal.loop-r1-preserved
 loop-r1-preserved g c = λ L x y hx hy. again L x y _ _ (c.loop-r1.invariant L x y hx hy) c.args.a.now.short c.args.b.now.short
-    (omega arith) c.div-rem.ensures.less c.div-rem.ensures.is
-    c.minus-product-x2.ensures.exact c.minus-product-y2.ensures.exact
+    (omega arith) c.div_rem.ensures.less c.div_rem.ensures.is
+    c.minus_product-x2.ensures.exact c.minus_product-y2.ensures.exact
 
 pub returns : goal.returns
 returns g c = λ L x y hx hy. finish L x y _ _ (c.loop-r1.invariant L x y hx hy) (omega arith)
-    c.top-inverse-c.ensures c.scale.ensures c.scale-2.ensures c.scale-3.ensures
+    c.top_inverse-c.ensures c.scale.ensures c.scale-2.ensures c.scale-3.ensures

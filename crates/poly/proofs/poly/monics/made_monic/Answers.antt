@@ -2,4 +2,4 @@ use Rattle.poly.proofs.Monics.{monic_is}
 use Rattle.poly.proofs.poly.monics.made_monic.Goals as goal
 
 pub returns : goal.returns
-returns g c = monic_is (g.F.Field.meaning c.args.f.now) c.args.a.now c.scale.result c.top_inverse_lem.result c.top_inverse_lem.ensures c.scale.ensures
+returns g c = monic_is (g.F.Field.meaning c.args.f.now) c.args.a.now c.scale.result c.top_inverse.result c.top_inverse.ensures c.scale.ensures

@@ -7,9 +7,9 @@ loop-i-init g c = ((λ k h. refl), λ L x y hx hy low. start L x y c.args.out.no
 
 pub loop-i-preserved : goal.loop-i-preserved
 loop-i-preserved g c = (
-  (λ k h. c.add-row.ensures.after k (omega arith) ∙ c.loop-i.invariant.0 k (omega arith)),
-  λ L x y hx hy low. again L x y c.args.a.now c.args.b.now hx hy c.args.out.now c.loop-i.out c.add-row.new.out c.loop-i.i c.min-n.result
-      (λ k g h. omega arith) (c.loop-i.invariant.1 L x y hx hy low) c.add-row.ensures,
+  (λ k h. c.add_row.ensures.after k (omega arith) ∙ c.loop-i.invariant.0 k (omega arith)),
+  λ L x y hx hy low. again L x y c.args.a.now c.args.b.now hx hy c.args.out.now c.loop-i.out c.add_row.new.out c.loop-i.i c.min-n.result
+      (λ k g h. omega arith) (c.loop-i.invariant.1 L x y hx hy low) c.add_row.ensures,
 )
 
 pub returns : goal.returns

@@ -9,8 +9,8 @@ use Rattle.poly.proofs.poly.products.less_product.Goals as goal
 pub normal-requires : goal.normal-requires
 normal-requires g c = record {
   within = omega arith;
-  ended = λ k h. ⊎_elim (λ l. c.add-product.ensures.past k (omega arith) ∙ c.args.a.now.past k (omega arith))
-      (λ l. get_or_past c.add-product.new.out k 0 (omega arith)) (cases_lt k 128);
+  ended = λ k h. ⊎_elim (λ l. c.add_product.ensures.past k (omega arith) ∙ c.args.a.now.past k (omega arith))
+      (λ l. get_or_past c.add_product.new.out k 0 (omega arith)) (cases_lt k 128);
 }
 
 pub returns : goal.returns
@@ -19,4 +19,4 @@ returns g c = record { low = low; exact = exact_less (g.F.Field.meaning c.args.f
     low : LowLess (g.F.Field.meaning c.args.f.now) c.args.a.now c.args.p.now c.args.b.now c.normal.result
     low = low_less (g.F.Field.meaning c.args.f.now) c.args.a.now c.args.p.now c.neg-opposite.result c.args.b.now c.normal.result
         c.neg-opposite.ensures
-        (subst (λ (l : List ℕ). Added (g.F.Field.meaning c.args.f.now) c.args.a.now.raw.coeffs c.neg-opposite.result c.args.b.now l) (sym c.normal.ensures) c.add-product.ensures)
+        (subst (λ (l : List ℕ). Added (g.F.Field.meaning c.args.f.now) c.args.a.now.raw.coeffs c.neg-opposite.result c.args.b.now l) (sym c.normal.ensures) c.add_product.ensures)

@@ -10,8 +10,8 @@ use Rattle.poly.proofs.poly.products.product.Goals as goal
 pub normal-requires : goal.normal-requires
 normal-requires g c = record {
   within = omega arith;
-  ended = λ k h. ⊎_elim (λ l. c.add-product.ensures.past k (omega arith) ∙ zeros 128 k)
-      (λ l. get_or_past c.add-product.new.out k 0 (omega arith)) (cases_lt k 128);
+  ended = λ k h. ⊎_elim (λ l. c.add_product.ensures.past k (omega arith) ∙ zeros 128 k)
+      (λ l. get_or_past c.add_product.new.out k 0 (omega arith)) (cases_lt k 128);
 }
 
 pub returns : goal.returns
@@ -19,4 +19,4 @@ returns g c = record { low = low; exact = exact_product (g.F.Field.meaning c.arg
   where
     low : LowProduct (g.F.Field.meaning c.args.f.now) c.args.a.now c.args.b.now c.normal.result
     low = low_product (g.F.Field.meaning c.args.f.now) c.args.a.now c.args.b.now c.normal.result
-        (subst (λ (l : List ℕ). Added (g.F.Field.meaning c.args.f.now) (replicate 128 0) c.args.a.now c.args.b.now l) (sym c.normal.ensures) c.add-product.ensures)
+        (subst (λ (l : List ℕ). Added (g.F.Field.meaning c.args.f.now) (replicate 128 0) c.args.a.now c.args.b.now l) (sym c.normal.ensures) c.add_product.ensures)

@@ -12,11 +12,11 @@ returns-then-b-eq0 g c = record {
   is = λ L x y hx hy. whole_rest L x y c.args.a.now c.zero.result hx (c.zero.ensures.is _ L);
 }
 
-pub returns-in-default : goal.returns-in-default
-returns-in-default g c = record {
-  less = λ h. let l : size c.zero-in-default-2.result ≤ 0 = size_le c.zero-in-default-2.result 0 (λ k _. c.zero-in-default-2.ensures.places k) in omega arith;
+pub returns-in_default : goal.returns-in_default
+returns-in_default g c = record {
+  less = λ h. let l : size c.zero-in_default-2.result ≤ 0 = size_le c.zero-in_default-2.result 0 (λ k _. c.zero-in_default-2.ensures.places k) in omega arith;
   undivided = λ h. absurd (omega arith);
-  is = λ L x y hx hy. absurd (stuck L x y c.args.b.now hy (omega arith) c.in-default.ensures);
+  is = λ L x y hx hy. absurd (stuck L x y c.args.b.now hy (omega arith) c.in_default.ensures);
 }
 
 pub loop-i-init : goal.loop-i-init
@@ -32,14 +32,14 @@ loop-i-init g c = (
 pub loop-i-preserved : goal.loop-i-preserved
 loop-i-preserved g c = (
   simp length-set c.loop-i.invariant.0,
-  simp length-set c.add-row.array_long,
+  simp length-set c.add_row.array_long,
   (λ k h. let ne : k ≢ c.loop-i.i - 1 = omega arith in rw get_or-set_other (c.loop-i.invariant.2 k (omega arith))),
   (λ k h. let ne : k ≢ c.loop-i.i - 1 = omega arith in rw get_or-set_other (c.loop-i.invariant.3 k h)),
-  set_gone c.add-row.new.out _ (λ k h. c.add-row.ensures.after k (omega arith) ∙ c.loop-i.invariant.4 k (omega arith)),
+  set_gone c.add_row.new.out _ (λ k h. c.add_row.ensures.after k (omega arith) ∙ c.loop-i.invariant.4 k (omega arith)),
   λ L x y hx hy.
-      step L x y c.args.b.now hy c.in-Some.u (c.loop-i.i - 1) c.mul-digit.result c.neg.result c.loop-i.quotient c.loop-i.rest c.add-row.new.out
+      step L x y c.args.b.now hy c.in-Some.u (c.loop-i.i - 1) c.mul-digit.result c.neg.result c.loop-i.quotient c.loop-i.rest c.add_row.new.out
       (omega arith) c.in-Some.ensures (c.loop-i.invariant.5 L x y hx hy) c.mul-digit.ensures c.neg.ensures
-      (omega arith) (c.loop-i.invariant.2 (c.loop-i.i - 1) (omega arith)) c.add-row.ensures,
+      (omega arith) (c.loop-i.invariant.2 (c.loop-i.i - 1) (omega arith)) c.add_row.ensures,
 )
 
 pub normal-requires : goal.normal-requires
