@@ -42,7 +42,7 @@ returns-then-is-one-2 g c =
     record {
       follows = trivial_key c.args.self.now c.args.bytes.now c.in-ok-setting.setting c.requires c.in-ok-setting.ensures
           c.in-ok-ideal.ideal c.in-ok-ideal.ensures c.is-one.result c.is-one.ensures.is c.if-is-one.false
-          c.in-ok-place.place c.in-ok-place.ensures.made c.multiple_multiple.result c.multiple_multiple.ensures
+          c.in-ok-place.place c.in-ok-place.ensures.made c.multiple-multiple.result c.multiple-multiple.ensures
           c.is-one-2.result (subst (λ (a : Ideal). IsOne a c.is-one-2.result) c.ideal.ensures c.is-one-2.ensures.is) c.if-is-one-2.true;
       rest = record { field = refl; ideal = refl; distance = refl };
       unchanged = refl;
@@ -60,7 +60,7 @@ returns g c =
     record {
       follows = taken c.args.self.now c.args.bytes.now c.in-ok-setting.setting c.requires c.in-ok-setting.ensures
           c.in-ok-ideal.ideal c.in-ok-ideal.ensures c.is-one.result c.is-one.ensures.is c.if-is-one.false
-          c.in-ok-place.place c.in-ok-place.ensures.made c.multiple_multiple.result c.multiple_multiple.ensures
+          c.in-ok-place.place c.in-ok-place.ensures.made c.multiple-multiple.result c.multiple-multiple.ensures
           c.is-one-2.result (subst (λ (a : Ideal). IsOne a c.is-one-2.result) c.ideal.ensures c.is-one-2.ensures.is) c.if-is-one-2.false
           after refl refl refl c.ideal-2.ensures;
       rest = record { field = refl; ideal = refl; distance = refl };

@@ -22,41 +22,41 @@ returns-then-len-lt1 g c = record {
   same = tt;
 }
 
-pub returns-then-not-is-monic : goal.returns-then-not-is-monic
-returns-then-not-is-monic g c = record {
+pub returns-then-not-is_monic : goal.returns-then-not-is_monic
+returns-then-not-is_monic g c = record {
   made = λ L A x y S-is Q_is P_is. inl (
     (omega (arith, size_is L Q_is), omega (arith, size_is L Q_is, S-is.m_is)),
-    inr (monic_no L Q_is (refuted c.is-monic.ensures c.if-not-is-monic.true), refl),
+    inr (monic_no L Q_is (refuted c.is_monic.ensures c.if-not-is_monic.true), refl),
   );
   same = tt;
 }
 
-pub returns-then-not-is-lower : goal.returns-then-not-is-lower
-returns-then-not-is-lower g c = record {
+pub returns-then-not-is_lower : goal.returns-then-not-is_lower
+returns-then-not-is_lower g c = record {
   made = λ L A x y S-is Q_is P_is. inl (
     (omega (arith, size_is L Q_is), omega (arith, size_is L Q_is, S-is.m_is)),
     inl (
-      monic_yes L Q_is (c.is-monic.ensures.0 c.if-not-is-monic.false),
-      inr (lower_no L P_is Q_is (refuted c.is-lower.ensures c.if-not-is-lower.true), refl),
+      monic_yes L Q_is (c.is_monic.ensures.0 c.if-not-is_monic.false),
+      inr (lower_no L P_is Q_is (refuted c.is_lower.ensures c.if-not-is_lower.true), refl),
     ),
   );
   same = tt;
 }
 
-pub returns-then-not-is-zero : goal.returns-then-not-is-zero
+pub returns-then-not-is_zero : goal.returns-then-not-is_zero
 unfolding poly_ring Polynomials
-returns-then-not-is-zero g c = record {
+returns-then-not-is_zero g c = record {
   made = λ L A x y S-is Q_is P_is.
       let D_is : Is L c.radicand.result.now A.D = subst (λ (p : Poly). Is L p A.D) (sym c.radicand.ensures) S-is.D_is in
-      let rest = c.sub.ensures L A.D ((K L).r.◌⊗◌ y y) D_is (c.mul.ensures.exact L y y P_is P_is (let h = c.is-lower.ensures.0 c.if-not-is-lower.false in omega arith)) in
-      let left : size c.div-rem.result.1 ≢ 0 = λ e. true≢false (sym (c.is-zero.ensures ∙ eq-eqb _ _ e) ∙ c.if-not-is-zero.true) in
+      let rest = c.sub.ensures L A.D ((K L).r.◌⊗◌ y y) D_is (c.mul.ensures.exact L y y P_is P_is (let h = c.is_lower.ensures.0 c.if-not-is_lower.false in omega arith)) in
+      let left : size c.div_rem.result.1 ≢ 0 = λ e. true≢false (sym (c.is_zero.ensures ∙ eq-eqb _ _ e) ∙ c.if-not-is_zero.true) in
       inl (
         (omega (arith, size_is L Q_is), omega (arith, size_is L Q_is, S-is.m_is)),
         inl (
-          monic_yes L Q_is (c.is-monic.ensures.0 c.if-not-is-monic.false),
+          monic_yes L Q_is (c.is_monic.ensures.0 c.if-not-is_monic.false),
           inl (
-            lower_yes L P_is Q_is (c.is-lower.ensures.0 c.if-not-is-lower.false),
-            inr (divides_no L (c.div-rem.ensures.is L _ x rest Q_is) Q_is (c.div-rem.ensures.less (omega arith)) left, refl),
+            lower_yes L P_is Q_is (c.is_lower.ensures.0 c.if-not-is_lower.false),
+            inr (divides_no L (c.div_rem.ensures.is L _ x rest Q_is) Q_is (c.div_rem.ensures.less (omega arith)) left, refl),
           ),
         ),
       );
@@ -68,11 +68,11 @@ unfolding poly_ring Polynomials
 returns g c = record {
   made = λ L A x y S-is Q_is P_is.
       let D_is : Is L c.radicand.result.now A.D = subst (λ (p : Poly). Is L p A.D) (sym c.radicand.ensures) S-is.D_is in
-      let rest = c.sub.ensures L A.D ((K L).r.◌⊗◌ y y) D_is (c.mul.ensures.exact L y y P_is P_is (let h = c.is-lower.ensures.0 c.if-not-is-lower.false in omega arith)) in
-      let left : size c.div-rem.result.1 ≡ 0 = eqb-true _ _ (sym c.is-zero.ensures ∙ c.if-not-is-zero.false) in
+      let rest = c.sub.ensures L A.D ((K L).r.◌⊗◌ y y) D_is (c.mul.ensures.exact L y y P_is P_is (let h = c.is_lower.ensures.0 c.if-not-is_lower.false in omega arith)) in
+      let left : size c.div_rem.result.1 ≡ 0 = eqb-true _ _ (sym c.is_zero.ensures ∙ c.if-not-is_zero.false) in
       ideal_made L A x y (omega (arith, size_is L Q_is), omega (arith, size_is L Q_is, S-is.m_is))
-      (monic_yes L Q_is (c.is-monic.ensures.0 c.if-not-is-monic.false))
-      (lower_yes L P_is Q_is (c.is-lower.ensures.0 c.if-not-is-lower.false))
-      (divides_yes L (c.div-rem.ensures.is L _ x rest Q_is) left) _ Q_is P_is;
+      (monic_yes L Q_is (c.is_monic.ensures.0 c.if-not-is_monic.false))
+      (lower_yes L P_is Q_is (c.is_lower.ensures.0 c.if-not-is_lower.false))
+      (divides_yes L (c.div_rem.ensures.is L _ x rest Q_is) left) _ Q_is P_is;
   same = (refl, refl);
 }

@@ -3,4 +3,4 @@ use Rattle.ideal.proofs.Reducing.{goes_on}
 use Rattle.ideal.proofs.ideal.Ideal.shortened.Goals as goal
 
 pub returns : goal.returns
-returns g c = λ a i came big. goes_on came big c.step_far.ensures (λ h. omega arith)
+returns g c = λ a i came big. goes_on came big c.step-far.ensures (λ h. omega arith)
