@@ -11,8 +11,8 @@ pub returns : goal.returns
 returns g c =
     let m : Meaning = g.F.Field.meaning c.args.f.now in
     let b : List ℕ = c.args.body.now in
-    let a : Answers (body_asks m.size b) accepted = subst (λ (q : ℕ). Answers (body_asks q b) accepted) c.size.ensures c.in-ok-ask.ensures in
+    let a : Answers (body_asks m.size b) accepted = subst (λ (q : ℕ). Answers (body_asks q b) accepted) c.size.ensures c.in_ok-ask.ensures in
     record {
       answers = answered (body_asks m.size b) accepted a;
-      reading = reading m b (all_bytes b (λ i. (c.type-inv.body i).fits)) (answers_hold (body_asks m.size b) a) c.stored.result c.stored.ensures;
+      reading = reading m b (all_bytes b (λ i. (c.type_inv.body i).fits)) (answers_hold (body_asks m.size b) a) c.stored.result c.stored.ensures;
     }

@@ -28,5 +28,5 @@ returns c =
     record {
       answers = hold_answers (packet_asks c.args.k c.args.l x) asked;
       holds = holds;
-      whole = holds_written c.args.k c.args.l x _ _ (all_bytes x (λ i. (c.type-inv.packet i).fits)) holds;
+      whole = holds_written c.args.k c.args.l x _ _ (all_bytes x (λ i. (c.type_inv.packet i).fits)) holds;
     }

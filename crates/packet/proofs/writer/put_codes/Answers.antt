@@ -27,12 +27,12 @@ more z from p i w fits less e =
     ∙ sym (spell_append (take i cs) (get_or cs i 0 ∷ []))
     ∙ ap spell (sym (take_more cs i 0 (omega arith))))
 
-pub put-number-requires : goal.put-number-requires
-put-number-requires c = omega (arith, c.requires, body_size c.args.p.now, c.len-count.ensures.0)
+pub put_number-requires : goal.put_number-requires
+put_number-requires c = omega (arith, c.requires, body_size c.args.p.now, c.len-count.ensures.0)
 
 pub loop-i-preserved : goal.loop-i-preserved
 loop-i-preserved c =
-    c.put-number.ensures
+    c.put_number.ensures
     ∙ ap (λ (z : List ℕ). over z (c.args.at + 4 * c.loop-i.i) (four c.coeff.result)) c.loop-i.invariant
     ∙ more c.args.out.now c.args.at c.args.p.now c.loop-i.i c.coeff.result (omega (arith, c.requires, body_size c.args.p.now)) (omega (arith, c.len-count.ensures.0))
     (c.coeff.ensures ∙ ap (λ (n : ℕ). at c.args.p.now (n - 1 - c.loop-i.i)) c.len-count.ensures.0)

@@ -30,7 +30,7 @@ returns g c =
     let whole : c.put-2.new.out ≡ over z 0 (packet k l b d) =
     c.put-2.ensures
     ∙ ap (λ (y : List ℕ). over y (11 + c.len-len1.result) d)
-    (c.put.ensures ∙ ap (λ (y : List ℕ). over y 11 b) (c.put-table.ensures ∙ ap₂ (λ (i j : ℕ). over z 0 (table k l i j)) e₁.0 e₂.0))
+    (c.put.ensures ∙ ap (λ (y : List ℕ). over y 11 b) (c.put_table.ensures ∙ ap₂ (λ (i j : ℕ). over z 0 (table k l i j)) e₁.0 e₂.0))
     ∙ packed z b d k l c.len-len1.result e₁.0 in
     record {
       answers = inl (omega arith, refl);

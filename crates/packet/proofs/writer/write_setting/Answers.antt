@@ -16,5 +16,5 @@ returns g c =
     record {
       bytes = w;
       values = writes_setting m d c.args.out.now c.write.new.out c.write.result w;
-      back = settings_back m d c.args.out.now c.write.new.out c.write.result (subst (λ (n : ℕ). n < 4294967296) c.size.ensures c.size.type-inv) w;
+      back = settings_back m d c.args.out.now c.write.new.out c.write.result (subst (λ (n : ℕ). n < 4294967296) c.size.ensures c.size.type_inv) w;
     }

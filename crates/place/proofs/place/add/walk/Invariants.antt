@@ -9,4 +9,4 @@ use Rattle.place.proofs.place.add.walk.Given as goal
 
 abbrev pub invariant-loop-turn : goal.invariant-loop-turn
 invariant-loop-turn g l = (L : Lawful (g.F.Field.meaning l.f)) (A : Accepted L) (x : Ideals L A) → SettingIs L A l.setting → IdealIs L A l.start.ideal x
-    → Standard (K L) (setting L A) x → (K L).len x.Q ≤ A.m → Walking L A x l.start.offset l.-turn l.place
+    → Standard (K L) (setting L A) x → (K L).len x.Q ≤ A.m → Walking L A x l.start.offset l._turn l.place

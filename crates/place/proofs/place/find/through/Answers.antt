@@ -7,9 +7,9 @@ pub loop-byte-init : goal.loop-byte-init
 loop-byte-init g c = λ L A hs. c.requires _ L A
 
 pub loop-byte-preserved : goal.loop-byte-preserved
-loop-byte-preserved g c = λ L A hs. subst (λ (n : ℕ). HoldsAt L A n c.through-byte-found.result)
+loop-byte-preserved g c = λ L A hs. subst (λ (n : ℕ). HoldsAt L A n c.through_byte-found.result)
     (number_more c.args.bytes.now c.loop-byte.byte-index (omega arith))
-    (c.through-byte-found.ensures L A _ hs (c.loop-byte.invariant L A hs))
+    (c.through_byte-found.ensures L A _ hs (c.loop-byte.invariant L A hs))
 
 pub returns : goal.returns
 returns g c = λ L A hs. subst (λ (n : ℕ). HoldsAt L A n c.loop-byte.found)

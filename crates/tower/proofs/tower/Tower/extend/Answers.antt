@@ -3,21 +3,21 @@ use Rattle.tower.specs.Piles.{fewest}
 use Rattle.tower.proofs.Sizes.{at_pile, squared, fifth_too_large}
 use Rattle.tower.proofs.tower.Tower.extend.Goals as goal
 
-pub invariant-of-result : goal.invariant-of-result
-invariant-of-result c =
-    (squared 3 _ _ _ (at_pile _ _ c.in-Base.is c.args.self.large) c.in-ok-new.ensures.1, tt)
+pub invariant_of-result : goal.invariant_of-result
+invariant_of-result c =
+    record { large = squared 3 _ _ _ (at_pile _ _ c.in-Base.is c.args.self.large) c.in_ok-new-in-Base.ensures.1 }
 
-pub invariant-of-result-in-One : goal.invariant-of-result-in-One
-invariant-of-result-in-One c =
-    (squared 9 _ _ _ (at_pile _ _ c.in-One.is c.args.self.large) c.in-ok-new-2.ensures.1, tt)
+pub invariant_of-result-in-One : goal.invariant_of-result-in-One
+invariant_of-result-in-One c =
+    record { large = squared 9 _ _ _ (at_pile _ _ c.in-One.is c.args.self.large) c.in_ok-new-in-One.ensures.1 }
 
-pub invariant-of-result-in-Two : goal.invariant-of-result-in-Two
-invariant-of-result-in-Two c =
-    (squared 81 _ _ _ (at_pile _ _ c.in-Two.is c.args.self.large) c.in-ok-new-3.ensures.1, tt)
+pub invariant_of-result-in-Two : goal.invariant_of-result-in-Two
+invariant_of-result-in-Two c =
+    record { large = squared 81 _ _ _ (at_pile _ _ c.in-Two.is c.args.self.large) c.in_ok-new-in-Two.ensures.1 }
 
-pub invariant-of-result-in-Three : goal.invariant-of-result-in-Three
-invariant-of-result-in-Three c =
-    (squared 6561 _ _ _ (at_pile _ _ c.in-Three.is c.args.self.large) c.in-ok-new-4.ensures.1, tt)
+pub invariant_of-result-in-Three : goal.invariant_of-result-in-Three
+invariant_of-result-in-Three c =
+    record { large = squared 6561 _ _ _ (at_pile _ _ c.in-Three.is c.args.self.large) c.in_ok-new-in-Three.ensures.1 }
 
 pub returns-in-Four : goal.returns-in-Four
 returns-in-Four c =
