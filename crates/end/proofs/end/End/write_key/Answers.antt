@@ -7,9 +7,9 @@ use Rattle.end.proofs.end.End.write_key.Goals as goal
 pub returns : goal.returns
 returns g c =
     let before : List ℕ = c.args.out.now in
-    let after : List ℕ = c.write-offer.new.out in
+    let after : List ℕ = c.write_offer.new.out in
     record {
-      follows = handed c.args.self.now before after c.write-offer.result c.requires
-          (subst₂ (λ (q p : Poly). WritesOffer q p before after c.write-offer.result) c.q.ensures c.p.ensures c.write-offer.ensures.values);
-      kept = kept c.write-offer.result c.write-offer.ensures.bytes;
+      follows = handed c.args.self.now before after c.write_offer.result c.requires
+          (subst₂ (λ (q p : Poly). WritesOffer q p before after c.write_offer.result) c.q.ensures c.p.ensures c.write_offer.ensures.values);
+      kept = kept c.write_offer.result c.write_offer.ensures.bytes;
     }

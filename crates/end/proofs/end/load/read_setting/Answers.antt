@@ -9,6 +9,6 @@ use Rattle.end.proofs.end.load.read_setting.Goals as goal
 pub returns-in-Some : goal.returns-in-Some
 returns-in-Some g c =
     let M : Meaning = g.F.Field.meaning c.args.f.now in
-    let read = c.in-ok-radicand.ensures in
+    let read = c.in_ok-radicand.ensures in
     setting_read c.args.bytes.now c.in-Some.radicand c.new.result read.answers.is
     (subst (λ (o : Option Poly). Reading M (body c.args.bytes.now second) o) c.in-Some.is read.reading) c.new.ensures.made

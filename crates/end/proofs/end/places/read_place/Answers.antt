@@ -2,15 +2,15 @@ use Rattle.std.proofs.lemmas.Result.{err_from_is_err_and}
 use Rattle.end.proofs.Placing.{ideal_away, place_read}
 use Rattle.end.proofs.end.places.read_place.Goals as goal
 
-pub returns-in-err-ideal : goal.returns-in-err-ideal
-returns-in-err-ideal g c =
-    let p = err_from_is_err_and c.from-residual.result c.from-residual.ensures.1 in
+pub returns-in_err-ideal : goal.returns-in_err-ideal
+returns-in_err-ideal g c =
+    let p = err_from_is_err_and c.from_residual.result c.from_residual.ensures.1 in
     rw (p.1, p.2) (ideal_away (g.F.Field.meaning c.args.f.now) c.args.setting.now c.args.given.now
-    (c.in-field.ensures.0 c.if-not-in-field.false) (c.in-field-2.ensures.0 c.if-not-in-field-2.false)
-    c.in-err-ideal.field-0.0 c.in-err-ideal.ensures.made)
+    (c.in_field.ensures.0 c.if-not-in_field.false) (c.in_field-2.ensures.0 c.if-not-in_field-2.false)
+    c.in_err-ideal.field-0.0 c.in_err-ideal.ensures.made)
 
 pub returns : goal.returns
 returns g c =
     place_read (g.F.Field.meaning c.args.f.now) c.args.setting.now c.args.given.now
-    (c.in-field.ensures.0 c.if-not-in-field.false) (c.in-field-2.ensures.0 c.if-not-in-field-2.false)
-    c.in-ok-ideal.ideal c.in-ok-ideal.ensures.made c.new-2.result c.new-2.ensures.made
+    (c.in_field.ensures.0 c.if-not-in_field.false) (c.in_field-2.ensures.0 c.if-not-in_field-2.false)
+    c.in_ok-ideal.ideal c.in_ok-ideal.ensures.made c.new-2.result c.new-2.ensures.made
