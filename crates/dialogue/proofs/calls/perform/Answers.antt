@@ -28,7 +28,7 @@ returns-in-Take g c = record {
 
 pub returns-in-Open : goal.returns-in-Open
 returns-in-Open g c =
-    let d = c.deref-mut.ensures in
+    let d = c.deref_mut.ensures in
     let whole : length c.open-answer.new.secret ≡ c.in-Open.secret.len = omega arith in
     record {
       event = (
@@ -39,31 +39,31 @@ returns-in-Open g c =
       over = c.open-answer.ensures.rest.field;
     }
 
-pub returns-in-ok-out : goal.returns-in-ok-out
-returns-in-ok-out g c =
-    let made = c.in-ok-out.ensures.len in
-    let whole : length c.tell.new.out ≡ c.in-ok-out.out.len = omega arith in
-    let room : c.in-Tell.room ≡ length c.deref-mut-in-Tell.result.now = omega arith in
+pub returns-in_ok-out-in-Tell : goal.returns-in_ok-out-in-Tell
+returns-in_ok-out-in-Tell g c =
+    let made = c.in_ok-out-in-Tell.ensures.len in
+    let whole : length c.tell.new.out ≡ c.in_ok-out-in-Tell.out.len = omega arith in
+    let room : c.in-Tell.room ≡ length c.deref_mut-in-Tell.result.now = omega arith in
     record {
       event = (
         c.wrote.ensures.side,
         respelled (g.F.Field.meaning c.args.end.now.field) c.args.end.now c.args.end.now _ _ _ _ _ _ (ap call_of c.in-Tell.is ∙ ap tell room) c.wrote.ensures.answer
-            (c.wrote.ensures.written ∙ ap (λ (z : List ℕ). written_to z c.tell.result) (with_items_is c.in-ok-out.out c.tell.new.out whole))
+            (c.wrote.ensures.written ∙ ap (λ (z : List ℕ). written_to z c.tell.result) (with_items_is c.in_ok-out-in-Tell.out c.tell.new.out whole))
             c.tell.ensures.follows,
       );
       over = refl;
     }
 
-pub returns-in-ok-out-2 : goal.returns-in-ok-out-2
-returns-in-ok-out-2 g c =
-    let made = c.in-ok-out-2.ensures.len in
-    let whole : length c.key.new.out ≡ c.in-ok-out-2.out.len = omega arith in
-    let room : c.in-Key.room ≡ length c.deref-mut-in-Key.result.now = omega arith in
+pub returns-in_ok-out-in-Key : goal.returns-in_ok-out-in-Key
+returns-in_ok-out-in-Key g c =
+    let made = c.in_ok-out-in-Key.ensures.len in
+    let whole : length c.key.new.out ≡ c.in_ok-out-in-Key.out.len = omega arith in
+    let room : c.in-Key.room ≡ length c.deref_mut-in-Key.result.now = omega arith in
     record {
       event = (
         c.wrote-in-Key.ensures.side,
         respelled (g.F.Field.meaning c.args.end.now.field) c.args.end.now c.args.end.now _ _ _ _ _ _ (ap call_of c.in-Key.is ∙ ap key room) c.wrote-in-Key.ensures.answer
-            (c.wrote-in-Key.ensures.written ∙ ap (λ (z : List ℕ). written_to z c.key.result) (with_items_is c.in-ok-out-2.out c.key.new.out whole))
+            (c.wrote-in-Key.ensures.written ∙ ap (λ (z : List ℕ). written_to z c.key.result) (with_items_is c.in_ok-out-in-Key.out c.key.new.out whole))
             c.key.ensures.follows,
       );
       over = refl;

@@ -13,31 +13,31 @@ loop-line-init g c =
 
 pub loop-line-preserved : goal.loop-line-preserved
 loop-line-preserved g c =
-    let told = c.in-ok-event.ensures in
-    let pushed = chosen _ _ _ _ c.push.ensures.items (ap is_ok c.in-ok-push.was) in (
+    let told = c.in_ok-event.ensures in
+    let pushed = chosen _ _ _ _ c.push.ensures.items (ap is_ok c.in_ok-push.was) in (
       search rules,
       search rules,
       goes_on g.F.Field.meaning c.args.left.now c.args.right.now c.loop-line.left c.loop-line.right
-          c.step.new.left c.step.new.right (into_iter_items c.into-iter-line-iterator.result) (into_iter_items c.loop-line.line-iterator)
+          c.step.new.left c.step.new.right (into_iter_items c.into_iter-line-iterator.result) (into_iter_items c.loop-line.line-iterator)
           (into_iter_items c.next.new.self) (vec_items c.loop-line.log) (vec_items c.push.new.self) c.in-Some.line
-          c.in-ok-event.event c.loop-line.invariant.2 c.in-Some.ensures.steps.0 pushed told.side told.acts
+          c.in_ok-event.event c.loop-line.invariant.2 c.in-Some.ensures.steps.0 pushed told.side told.acts
           c.step.ensures.over_left c.step.ensures.over_right,
     )
 
-pub returns-in-err-event : goal.returns-in-err-event
-returns-in-err-event g c = record {
-  logs = unmade _ _ c.from-residual.ensures.0;
-  agrees = unmade _ _ c.from-residual.ensures.0;
-  newly = unmade _ _ c.from-residual.ensures.0;
+pub returns-in_err-event : goal.returns-in_err-event
+returns-in_err-event g c = record {
+  logs = unmade _ _ c.from_residual.ensures.0;
+  agrees = unmade _ _ c.from_residual.ensures.0;
+  newly = unmade _ _ c.from_residual.ensures.0;
   over_left = c.step.ensures.over_left ∙ c.loop-line.invariant.2.over_left;
   over_right = c.step.ensures.over_right ∙ c.loop-line.invariant.2.over_right;
 }
 
-pub returns-in-err-push : goal.returns-in-err-push
-returns-in-err-push g c = record {
-  logs = unmade _ _ c.from-residual-in-err-push.ensures.0;
-  agrees = unmade _ _ c.from-residual-in-err-push.ensures.0;
-  newly = unmade _ _ c.from-residual-in-err-push.ensures.0;
+pub returns-in_err-push : goal.returns-in_err-push
+returns-in_err-push g c = record {
+  logs = unmade _ _ c.from_residual-in_err-push.ensures.0;
+  agrees = unmade _ _ c.from_residual-in_err-push.ensures.0;
+  newly = unmade _ _ c.from_residual-in_err-push.ensures.0;
   over_left = c.step.ensures.over_left ∙ c.loop-line.invariant.2.over_left;
   over_right = c.step.ensures.over_right ∙ c.loop-line.invariant.2.over_right;
 }
@@ -49,7 +49,7 @@ returns g c =
     let so : Sofar g.F.Field.meaning c.args.left.now c.args.right.now c.loop-line.left c.loop-line.right
     (vec_items c.args.script) (into_iter_items c.loop-line.line-iterator) (vec_items c.loop-line.log) =
     subst (λ (z : List Line). Sofar g.F.Field.meaning c.args.left.now c.args.right.now c.loop-line.left c.loop-line.right
-    z (into_iter_items c.loop-line.line-iterator) (vec_items c.loop-line.log)) c.into-iter-line-iterator.ensures.into-iter-gives.0 c.loop-line.invariant.2 in
+    z (into_iter_items c.loop-line.line-iterator) (vec_items c.loop-line.log)) c.into_iter-line-iterator.ensures.into_iter_gives.0 c.loop-line.invariant.2 in
     let agrees = end_agrees g.F.Field.meaning c.args.left.now c.args.right.now c.loop-line.left c.loop-line.right _ _ _ so none in
     record {
       logs = end_logs g.F.Field.meaning c.args.left.now c.args.right.now c.loop-line.left c.loop-line.right _ _ _ so none;

@@ -2,4 +2,4 @@ use Rattle.std.proofs.Common.{inr}
 use Rattle.script.proofs.ground.setting.Goals as goal
 
 pub returns : goal.returns
-returns g c = inr (c.in-ok-radicand.radicand, c.in-ok-radicand.ensures, c.new.ensures.made)
+returns g c = inr (c.in_ok-radicand.radicand, c.in_ok-radicand.ensures, c.new.ensures.made)

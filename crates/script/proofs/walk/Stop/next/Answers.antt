@@ -5,9 +5,9 @@ use Rattle.script.proofs.walk.Stop.next.Goals as goal
 
 pub returns : goal.returns
 returns g c = record {
-  index = c.saturating-add.ensures;
+  index = c.saturating_add.ensures;
   line = λ small on.
-      let long : c.saturating-sub-length.result ≡ c.step-far.result.1 - size c.args.self.now.ideal.q = omega (arith, ap size c.q.ensures) in
+      let long : c.saturating_sub-length.result ≡ c.step-far.result.1 - size c.args.self.now.ideal.q = omega (arith, ap size c.q.ensures) in
       onward {M = g.F.Field.meaning c.args.f.now} {s = c.args.setting.now} {x = c.args.self.now} c.step-far.result.1
       c.step-far.ensures small (omega arith) (omega arith) on;
 }
