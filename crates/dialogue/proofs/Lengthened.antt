@@ -1,17 +1,16 @@
 -- A dialogue goes on by one call at a time.
-use Rattle.std.proofs.Common.{◌≡◌, ℕ, zero, suc, ◌+◌, ◌<◌, ◌≤◌, ◌≢◌, List, [], ◌∷◌, ◌++◌, length, get_or, sym, refl, ap, ◌∙◌, subst, ap₂, subst₂, append_assoc, append-nil, arith}
+use Rattle.std.proofs.Common.{◌≡◌, ℕ, ◌+◌, ◌<◌, ◌≢◌, List, [], ◌∷◌, ◌++◌, length, get_or, sym, refl, ap, ◌∙◌, subst, subst₂, append_assoc, append-nil, arith}
 use native.Mathlib.Decide.{dec_lt}
 use Rattle.std.proofs.lemmas.List.{get_or_append_left, get_or_push, length_push}
 use Rattle.field.specs.Meaning.{Meaning, Lawful}
 use Rattle.rules.specs.Settings.{Accepted}
-use Rattle.rules.specs.Ends.{State, ready, Does}
-use Rattle.rules.specs.Runs.{Side as Where, left, right, Event as Happening, Run, Agrees}
+use Rattle.rules.specs.Ends.{State, Does}
+use Rattle.rules.specs.Runs.{left, right, Event as Happening, Run}
 use Rattle.rules.proofs.Agreed.{agreement}
 use Rattle.rules.proofs.Extending.{empty_run, longer_run, event_old, event_new, end_acted, end_rested}
 use Rattle.end.specs.Values.{EndIs}
 use Rattle.end.specs.declared.end.End.{End}
-use Rattle.dialogue.specs.Scripts.{call_of, Performed}
-use Rattle.dialogue.specs.Talks.{Acts, side_of, event_of, events, Logs, Extends, Stands, Agreed, Converses, ConversesNew}
+use Rattle.dialogue.specs.Talks.{Acts, event_of, events, Logs, Extends, Stands, Agreed, Converses, ConversesNew}
 use Rattle.dialogue.specs.declared.script.Side.{Side}
 use Rattle.dialogue.specs.declared.script.Side.TheVariants.{Left, Right}
 use Rattle.dialogue.specs.declared.script.Order.{Order}

@@ -1,5 +1,5 @@
 -- The calls of a script and the events of a log, as the rules speak of them.
-use Rattle.std.specs.Prelude.{List, vec_items}
+use Rattle.std.specs.Prelude.{vec_items}
 use Rattle.field.specs.Meaning.{Meaning}
 use Rattle.rules.specs.Questions.{answer_of}
 use Rattle.rules.specs.Ends.{Call, load, «open», tell, take, key, close}

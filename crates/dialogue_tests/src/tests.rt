@@ -73,7 +73,7 @@ fn out_of_turn(rt: HostRuntime) -> Result<(), Fail> {
         assert_eq!(rt; answer(&log, i), wanted);
         i = i.saturating_add(1);
     }
-    assert!(rt; written(&log, 2, heap)?.as_slice() == &[0, 0]);
+    assert!(rt; written(&log, 2, heap)?.as_slice() == [0, 0].as_slice());
     let place = left.find(&[10])?;
     assert!(rt; place.ideal().is_one());
     assert_eq!(rt; place.offset(), 1);

@@ -1,5 +1,5 @@
 -- Each number from 1 to p - 1 has an inverse modulo the prime p.
-use Rattle.std.proofs.Common.{◌≡◌, ℕ, zero, suc, ◌-◌, ◌*◌, ◌/◌, ◌%◌, ◌<◌, ◌≤◌, Bool, true, false, eqb, ltb, ◌⊎◌, Some, None, sym, refl, ap, ◌∙◌, ⊎_elim, mod-lt, mod-eq_of_lt, zero-mul, arith}
+use Rattle.std.proofs.Common.{◌≡◌, ℕ, zero, suc, ◌-◌, ◌*◌, ◌/◌, ◌%◌, ◌<◌, ◌≤◌, Bool, true, false, eqb, ltb, Some, None, sym, refl, ap, ◌∙◌, ⊎_elim, mod-lt, mod-eq_of_lt, zero-mul, arith}
 use native.Mathlib.Nat.{zero-mod}
 use Rattle.std.proofs.lemmas.Bool.{eqb-true, eq-eqb, lt-ltb, le-ltb, cases_lt, cases_Bool}
 use Rattle.field.specs.Primes.{PrimeNumber, least, inverse_mod}

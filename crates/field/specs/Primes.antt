@@ -1,5 +1,5 @@
 -- The ten moduli, and arithmetic modulo p on the codes below p. A number from p up makes the answer 0, or the inverse absent.
-use Rattle.std.specs.Prelude.{◌≡◌, ℕ, zero, suc, ◌+◌, ◌-◌, ◌*◌, ◌%◌, ◌<◌, ◌≤◌, Bool, false, cond, ◌||◌, List, [], ◌∷◌, Some, None, Option, ◌==◌, ◌≢◌, nat_eq, nat_lt}
+use Rattle.std.specs.Prelude.{ℕ, zero, suc, ◌+◌, ◌-◌, ◌*◌, ◌%◌, ◌<◌, ◌≤◌, Bool, false, cond, ◌||◌, List, [], ◌∷◌, Some, None, Option, ◌==◌, ◌≢◌, nat_eq, nat_lt}
 use Rattle.field.specs.Meaning.{Meaning}
 
 -- the primes whose fields can be made

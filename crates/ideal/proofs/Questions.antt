@@ -1,12 +1,12 @@
 -- The questions put to a setting and to an ideal, answered from the records.
-use Rattle.std.proofs.Common.{◌≡◌, ℕ, ◌+◌, ◌-◌, ◌/◌, ◌<◌, ◌≤◌, Bool, false, ◌≢◌, Decides, sym, refl, ap, ◌∙◌, subst, true≢false, arith}
+use Rattle.std.proofs.Common.{◌≡◌, ℕ, ◌-◌, ◌/◌, ◌<◌, ◌≤◌, Bool, false, ◌≢◌, Decides, sym, refl, ap, ◌∙◌, subst, true≢false, arith}
 use Rattle.field.specs.Meaning.{Meaning, Lawful}
 use Rattle.ring.proofs.Ring.{Divides}
 use Rattle.ring.proofs.Poly.{Polynomials}
 use Rattle.ring.proofs.PolyModel.{poly_ring}
 use Rattle.ring.proofs.Lengths.{empty, pos_len}
 use Rattle.ring.proofs.Euclid.{common_len, remainder_unique}
-use Rattle.algebra.specs.Codes.{code, codes, one_low, R, K}
+use Rattle.algebra.specs.Codes.{code, one_low, R, K}
 use Rattle.algebra.specs.Ideals.{Standard}
 use Rattle.rules.specs.Questions.{Answers, accepted}
 use Rattle.rules.specs.Settings.{EvenDegree, Monic, Coprime, Accepted, setting, Ideals}

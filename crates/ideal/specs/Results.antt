@@ -3,8 +3,7 @@ use Rattle.std.specs.Prelude.{◌≡◌, ℕ, ◌+◌, ◌≤◌, Bool, ◌≢�
 use Rattle.field.specs.Meaning.{Meaning, Lawful}
 use Rattle.field.specs.Refusals.{refusal_number}
 use Rattle.field.specs.declared.refusal.Refusal.{Refusal}
-use Rattle.ring.proofs.Ring.{CommRing, Divides}
-use Rattle.ring.proofs.PolyRing.{PolyRing}
+use Rattle.ring.proofs.Ring.{Divides}
 use Rattle.algebra.specs.Codes.{R, K}
 use Rattle.algebra.specs.Ideals.{Standard, StandardForm}
 use Rattle.algebra.specs.Steps.{StepTo}

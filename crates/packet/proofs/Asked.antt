@@ -1,7 +1,7 @@
 -- The questions of whole packets, put one after the other.
-use Rattle.std.proofs.Common.{◌≡◌, ℕ, ◌+◌, ◌*◌, List, [], ◌∷◌, ◌++◌, length, get_or, ◌∙◌, subst, arith}
+use Rattle.std.proofs.Common.{◌≡◌, ℕ, List, [], ◌∷◌, ◌++◌, length, ◌∙◌, subst, arith}
 use Rattle.rules.specs.Questions.{Answer, accepted, Answers, Answered}
-use Rattle.rules.specs.Packets.{number, byte, packet_asks, body_asks, body, first, second}
+use Rattle.rules.specs.Packets.{number, packet_asks, body_asks, body, first, second}
 use Rattle.rules.proofs.Answering.{answered, accepted_then}
 use Rattle.packet.specs.declared.body.Body.{Body}
 use Rattle.packet.specs.declared.body.Sort.TheVariants.{Offer}

@@ -1,5 +1,5 @@
 -- What the writer has written, by values, and read back.
-use Rattle.std.proofs.Common.{◌≡◌, ℕ, ◌+◌, ◌*◌, ◌<◌, ◌≤◌, List, length, take, IfOk, Ok, Err, Result, sym, refl, ap, ◌∙◌, subst, ap₂, arith}
+use Rattle.std.proofs.Common.{◌≡◌, ℕ, ◌<◌, ◌≤◌, List, length, take, IfOk, Ok, Err, Result, sym, ap, ◌∙◌, subst, ap₂, arith}
 use Rattle.field.specs.Meaning.{Meaning, Lawful}
 use Rattle.field.specs.declared.refusal.Refusal.{Refusal}
 use Rattle.algebra.specs.Codes.{R}
@@ -8,7 +8,7 @@ use Rattle.rules.specs.Packets.{number, four, body, first, second, Holds, packet
 use Rattle.rules.specs.Settings.{body_of, poly_of}
 use Rattle.rules.proofs.Written.{number_four, packet_holds}
 use Rattle.rules.proofs.Spelled.{body_holds, body_read}
-use Rattle.poly.specs.Values.{size, Is}
+use Rattle.poly.specs.Values.{Is}
 use Rattle.poly.specs.declared.poly.Poly.{Poly}
 use Rattle.packet.specs.Polynomials.{codes_down}
 use Rattle.packet.specs.Writing.{Written, WritesSetting, WritesOffer, ReadAs, SettingBack, OfferBack}

@@ -1,5 +1,5 @@
 -- Records of polynomials and the codes of bodies.
-use Rattle.std.proofs.Common.{◌≡◌, ℕ, zero, suc, ◌+◌, ◌-◌, ◌*◌, ◌/◌, ◌%◌, ◌<◌, ◌≤◌, min, ◌≢◌, List, [], ◌∷◌, map, reverse, length, get_or, take, drop, Some, None, Option, sym, refl, ap, ◌∙◌, subst, ⊎_elim, arith, length-take}
+use Rattle.std.proofs.Common.{◌≡◌, ℕ, ◌-◌, ◌*◌, ◌<◌, ◌≤◌, min, List, [], map, reverse, length, get_or, take, Some, None, Option, sym, ap, ◌∙◌, subst, ⊎_elim, arith, length-take}
 use mathlib.Core.List.{reverse-reverse}
 use mathlib.Mathlib.Data.List.Basic.{map-reverse_aux}
 use lib.ListN.{length-reverse, length-map, get_or-map}
@@ -7,12 +7,12 @@ use Rattle.std.proofs.lemmas.List.{ext_get_or, length-take-le, get_or-take, get_
 use Rattle.std.proofs.lemmas.Bool.{cases_lt}
 use Rattle.field.specs.Meaning.{Meaning, Lawful}
 use Rattle.ring.proofs.Poly.{poly}
-use Rattle.algebra.specs.Codes.{Code, code, num_code, codes, zero_low, ring_c, R, K}
+use Rattle.algebra.specs.Codes.{Code, code, num_code, codes, zero_low, ring_c, R}
 use Rattle.poly.specs.Values.{at, size, Is}
 use Rattle.poly.specs.declared.poly.Poly.{Poly}
 use Rattle.poly.proofs.Bridge.{size_le, listed, moved, at_is, len_is, num_zero}
 use Rattle.rules.specs.Questions.{Hold}
-use Rattle.rules.specs.Packets.{All, Bytes, words, Leads, body_asks, spell}
+use Rattle.rules.specs.Packets.{Bytes, words, body_asks, spell}
 use Rattle.rules.specs.Settings.{poly_of, body_of}
 use Rattle.rules.proofs.Canonical.{spell_words}
 use Rattle.rules.proofs.Written.{spell_length}

@@ -2,7 +2,7 @@
 use Rattle.std.proofs.Common.{◌≡◌, ℕ, ◌+◌, ◌*◌, Some, None, Option, subst, arith}
 use Rattle.field.specs.Meaning.{Meaning, Lawful}
 use Rattle.algebra.specs.Codes.{K}
-use Rattle.algebra.specs.Places.{LawfulPlace, Times}
+use Rattle.algebra.specs.Places.{LawfulPlace}
 use Rattle.algebra.proofs.Adds.{adds-~, adds_lawful}
 use Rattle.algebra.proofs.Group.{multiple_one, multiple_double, multiple_next}
 use Rattle.algebra.proofs.Multiples.{times_of, times_lawful, times_multiple}

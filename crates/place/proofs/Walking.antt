@@ -1,5 +1,5 @@
 -- The loop of the walk: what has been walked so far, and what the walk from there on makes of it.
-use Rattle.std.proofs.Common.{◌≡◌, ℕ, ◌+◌, ◌-◌, ◌≤◌, Some, None, refl, arith}
+use Rattle.std.proofs.Common.{◌≡◌, ℕ, ◌+◌, ◌≤◌, Some, None, refl, arith}
 use Rattle.field.specs.Meaning.{Meaning, Lawful}
 use Rattle.ring.proofs.Lengths.{len_pos}
 use Rattle.algebra.specs.Codes.{K}

@@ -1,22 +1,22 @@
 -- Agreement.
-use Rattle.std.proofs.Common.{◌≡◌, ℕ, zero, suc, ◌+◌, ◌*◌, ◌<◌, ◌≤◌, ◌≢◌, ◌⊎◌, List, [], ◌∷◌, ◌++◌, sym, refl, ap, ◌∙◌, subst, ap₂, subst₂, inl, inr, mul_comm, arith}
+use Rattle.std.proofs.Common.{◌≡◌, ℕ, suc, ◌+◌, ◌*◌, ◌<◌, ◌≤◌, ◌≢◌, List, ◌++◌, sym, refl, ap, ◌∙◌, subst, ap₂, subst₂, inl, inr, mul_comm, arith}
 use native.Mathlib.Decide.{dec_le}
 use Rattle.field.specs.Meaning.{Meaning, Lawful}
 use Rattle.algebra.proofs.Adds.{adds_exists}
 use Rattle.algebra.proofs.Group.{sum_adds}
 use Rattle.algebra.proofs.Unique.{ideal_path}
 use Rattle.algebra.proofs.Line.{place_legal, place_sum}
-use Rattle.rules.specs.Questions.{Answer, accepted, refused, Answers, Hold}
+use Rattle.rules.specs.Questions.{Answer, accepted, refused, Hold}
 use Rattle.rules.specs.Packets.{All, number}
 use Rattle.rules.specs.Settings.{setting, Accepted, Ideals, unit_ideal, Closest, offer}
-use Rattle.rules.specs.Ends.{State, opened, keyed, Call, tell, take, key, close, Open, ideal_asks, questions, Does}
-use Rattle.rules.specs.Places.{Given, Places, Shows, Means, place_asks, Add, AddGives, codes_of, poly_from}
-use Rattle.rules.specs.Runs.{Side, left, right, Run, Calls, Opening, Within, Told, Takes, Keys, OffersOf, Exchange, Meets, Sums, SumsOf, Agrees, Agreement}
+use Rattle.rules.specs.Ends.{State, opened, keyed, tell, take, key, Open, ideal_asks, questions, Does}
+use Rattle.rules.specs.Places.{Given, Places, Shows, Means, place_asks, Add, codes_of, poly_from}
+use Rattle.rules.specs.Runs.{Side, left, right, Run, Told, Takes, Keys, OffersOf, Meets, SumsOf, Agreement}
 use Rattle.rules.proofs.Answering.{answers_unique, answers_hold, hold_append, hold_answers}
 use Rattle.rules.proofs.Spelled.{codes_low, codes_read}
 use Rattle.rules.proofs.Offered.{closest_unique, closest_legal, take_accepts, take_refuses, key_is, ideal_holds}
 use Rattle.rules.proofs.Openings.{Inside, calls_does, keyed_until, opening_begins, opening_keeps}
-use Rattle.algebra.specs.Places.{Place, place}
+use Rattle.algebra.specs.Places.{place}
 use Rattle.algebra.specs.Lines.{PlaceAt}
 use Rattle.algebra.specs.Codes.{K}
 

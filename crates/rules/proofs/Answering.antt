@@ -1,5 +1,5 @@
 -- Questions have one answer.
-use Rattle.std.proofs.Common.{◌≡◌, ℕ, ◌⊎◌, List, [], ◌∷◌, ◌++◌, sym, refl, ap, ◌∙◌, subst, inl, inr, arith}
+use Rattle.std.proofs.Common.{◌≡◌, ℕ, List, [], ◌∷◌, ◌++◌, sym, refl, ap, ◌∙◌, inl, inr, arith}
 use Rattle.rules.specs.Questions.{Question, Answer, accepted, refused, Answers, Answered, Hold}
 
 pub accepted≢refused : (a : Answer) (n : ℕ) → a ≡ accepted → a ≡ refused n → ⊥

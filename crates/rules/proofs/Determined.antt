@@ -1,5 +1,5 @@
 -- The rules fix the answer, the bytes written and the end left behind.
-use Rattle.std.proofs.Common.{◌≡◌, ℕ, ◌+◌, ◌≤◌, List, [], ◌∷◌, sym, refl, ap, ◌∙◌, subst, ap₂, arith}
+use Rattle.std.proofs.Common.{◌≡◌, ℕ, ◌+◌, ◌≤◌, List, sym, refl, ap, ◌∙◌, subst, ap₂, arith}
 use mathlib.Core.HLevel.{Discrete, hedberg, is_prop→PathP, Π_prop}
 use native.Mathlib.Bridge.{le_prop}
 use native.Mathlib.Decide.{ℕ_discrete}
@@ -16,7 +16,6 @@ use Rattle.rules.specs.Settings.{unit, Monic, Coprime, Accepted, setting, Ideals
 use Rattle.rules.specs.Ends.{State, blank, ready, opened, keyed, Call, load, «open», tell, take, key, close, questions, After, KeyIs, OpenLeaves, TakeLeaves, Does}
 use Rattle.rules.proofs.Answering.{answers_unique}
 use Rattle.rules.proofs.Offered.{closest_unique}
-use Rattle.ring.proofs.Ring.{Divides}
 use Rattle.algebra.specs.Places.{Place, place}
 use Rattle.algebra.specs.Codes.{K}
 

@@ -1,11 +1,11 @@
 -- Runs grow by one event at a time: from the run in which nothing has happened yet, by what one end does next.
-use Rattle.std.proofs.Common.{◌≡◌, ℕ, suc, ◌+◌, ◌<◌, ◌≤◌, ◌≢◌, List, [], sym, refl, ◌∙◌, subst, subst₂, arith}
+use Rattle.std.proofs.Common.{◌≡◌, ℕ, suc, ◌<◌, ◌≤◌, ◌≢◌, [], sym, refl, ◌∙◌, subst, subst₂, arith}
 use native.Mathlib.Decide.{dec_le, dec_lt}
 use Rattle.field.specs.Meaning.{Meaning, Lawful}
 use Rattle.rules.specs.Settings.{Accepted}
 use Rattle.rules.specs.Ends.{State, ready, close, Does}
 use Rattle.rules.specs.Questions.{accepted}
-use Rattle.rules.specs.Runs.{Side, left, right, Event, Run}
+use Rattle.rules.specs.Runs.{Side, left, Event, Run}
 use Rattle.rules.proofs.Openings.{side?}
 
 -- x if the fact holds, else y

@@ -1,16 +1,15 @@
 -- The packet of an accepted setting is accepted by a blank end: there are ends that are newly loaded with it.
-use Rattle.std.proofs.Common.{◌≡◌, ℕ, ◌+◌, ◌*◌, ◌<◌, ◌≤◌, List, [], ◌∷◌, ◌++◌, length, sym, refl, ap, ◌∙◌, subst, arith}
+use Rattle.std.proofs.Common.{◌≡◌, ℕ, List, [], ◌∷◌, ◌++◌, sym, refl, ap, ◌∙◌, subst, arith}
 use Rattle.field.specs.Meaning.{Meaning, Lawful}
 use Rattle.algebra.specs.Codes.{codes, R}
 use Rattle.ring.proofs.PolyModel.{poly_ring}
-use Rattle.rules.specs.Questions.{Question, Answers, accepted, Hold, ◌if_not◌}
-use Rattle.rules.specs.Packets.{number, four, packet_asks, body_asks, body, first, second, Holds}
+use Rattle.rules.specs.Questions.{Question, accepted, Hold, ◌if_not◌}
+use Rattle.rules.specs.Packets.{four, packet_asks, body_asks, body, first, second, Holds}
 use Rattle.rules.specs.Settings.{EvenDegree, Monic, Coprime, Accepted, body_of, poly_of, setting_packet}
-use Rattle.rules.specs.Ends.{State, blank, ready, load, questions, load_asks, SizeIs, Does}
+use Rattle.rules.specs.Ends.{blank, ready, load, questions, SizeIs, Does}
 use Rattle.rules.proofs.Answering.{hold_append, hold_answers}
 use Rattle.rules.proofs.Written.{number_four, packet_holds}
 use Rattle.rules.proofs.Spelled.{body_length, body_holds, body_read}
-use Rattle.algebra.specs.Codes.{K}
 
 module _ {M : Meaning} (L : Lawful M) (A : Accepted L) where
   abbrev x : List ℕ

@@ -1,21 +1,17 @@
 -- An offer that one end tells is accepted by the other, or answered by 45: which, the product of the distances decides.
-use Rattle.std.proofs.Common.{◌≡◌, ℕ, zero, suc, ◌+◌, ◌-◌, ◌*◌, ◌<◌, ◌≤◌, ◌≢◌, List, [], ◌∷◌, ◌++◌, length, sym, refl, ap, ◌∙◌, subst, ap₂, subst₂, inl, inr, arith}
+use Rattle.std.proofs.Common.{◌≡◌, ℕ, ◌+◌, ◌-◌, ◌*◌, ◌<◌, ◌≢◌, List, [], ◌∷◌, ◌++◌, length, sym, refl, ap, ◌∙◌, subst, subst₂, inl, inr, arith}
 use Rattle.field.specs.Meaning.{Meaning, Lawful}
-use Rattle.algebra.specs.Codes.{codes, R}
-use Rattle.ring.proofs.PolyRing.{PolyRing}
-use Rattle.ring.proofs.PolyModel.{poly_ring}
 use Rattle.algebra.proofs.Unique.{ideal_path}
 use Rattle.algebra.proofs.Multiples.{times_lawful, times_multiple, times_exists}
-use Rattle.algebra.proofs.Line.{place_legal, place_floor, place_unique, place_multiple, closest_place}
-use Rattle.rules.specs.Questions.{Question, Answer, accepted, refused, Answers, Hold, ◌if_not◌}
+use Rattle.algebra.proofs.Line.{place_legal, place_unique, place_multiple, closest_place}
+use Rattle.rules.specs.Questions.{Question, accepted, refused, Answers, Hold, ◌if_not◌}
 use Rattle.rules.specs.Packets.{packet_asks, body_asks, body, first, second, Holds}
-use Rattle.rules.specs.Settings.{Accepted, setting, Ideals, unit_ideal, Closest, MultipleOf, body_of, poly_of, offer}
-use Rattle.rules.specs.Ends.{ideal_asks, Reads, Other, KeyIs, OtherKey, take_asks, offer_asks, State, opened}
+use Rattle.rules.specs.Settings.{Accepted, setting, Ideals, unit_ideal, Closest, body_of, poly_of, offer}
+use Rattle.rules.specs.Ends.{ideal_asks, Reads, Other, KeyIs, OtherKey, take_asks, opened}
 use Rattle.rules.proofs.Answering.{hold_append, hold_then}
-use Rattle.rules.proofs.Written.{packet_holds, packet_first, packet_second}
+use Rattle.rules.proofs.Written.{packet_holds}
 use Rattle.rules.proofs.Spelled.{body_length, body_holds, body_read}
 use Rattle.algebra.specs.Settings.{Setting}
-use Rattle.algebra.specs.Ideals.{Ideal}
 use Rattle.algebra.specs.Places.{Place, place, LawfulPlace, Times}
 use Rattle.algebra.specs.Lines.{PlaceAt}
 use Rattle.algebra.specs.Codes.{K}

@@ -1,12 +1,12 @@
 -- What an end is throughout an opening.
-use Rattle.std.proofs.Common.{◌≡◌, ℕ, zero, suc, ◌+◌, ◌<◌, ◌≤◌, ◌≢◌, ◌⊎◌, List, [], ◌∷◌, sym, refl, ap, ◌∙◌, subst, inl, inr, arith}
+use Rattle.std.proofs.Common.{◌≡◌, ℕ, zero, suc, ◌<◌, ◌≤◌, ◌≢◌, ◌⊎◌, List, refl, ◌∙◌, subst, inl, inr, arith}
 use mathlib.Core.Path.{subst₃}
 use native.Mathlib.Decide.{dec_le, dec_lt}
 use Rattle.field.specs.Meaning.{Meaning, Lawful}
-use Rattle.rules.specs.Questions.{Answer, accepted, refused, Answers}
+use Rattle.rules.specs.Questions.{Answer, accepted, refused}
 use Rattle.rules.specs.Packets.{number}
-use Rattle.rules.specs.Settings.{Accepted, Ideals, unit_ideal, Closest, offer}
-use Rattle.rules.specs.Ends.{State, blank, ready, opened, keyed, Call, load, «open», tell, take, key, close, questions, Does}
+use Rattle.rules.specs.Settings.{Accepted, Ideals, unit_ideal, Closest}
+use Rattle.rules.specs.Ends.{State, ready, opened, keyed, Call, load, «open», tell, take, key, close, questions, Does}
 use Rattle.rules.specs.Runs.{Side, left, right, Run, Calls, Opening, Within}
 use Rattle.rules.proofs.Answering.{answers_hold}
 use Rattle.rules.proofs.Offered.{closest_unique}

@@ -1,9 +1,9 @@
 -- Every monic D of degree 2m has its d: load's questions are all that a setting asks for.
-use Rattle.std.proofs.Common.{◌≡◌, ℕ, zero, suc, ◌+◌, ◌<◌, ◌≤◌, ◌≢◌, List, [], ◌∷◌, length, sym, refl, ap, ◌∙◌, subst, ap₂, arith}
+use Rattle.std.proofs.Common.{◌≡◌, ℕ, zero, suc, ◌+◌, ◌≤◌, ◌≢◌, List, [], ◌∷◌, length, sym, refl, ap, ◌∙◌, subst, ap₂, arith}
 use native.Mathlib.Decide.{dec_le}
 use lib.ListN.{get_or-eq_default}
 use Rattle.field.specs.Meaning.{Meaning, Lawful}
-use Rattle.algebra.specs.Codes.{Code, codes, R}
+use Rattle.algebra.specs.Codes.{codes, R}
 use Rattle.ring.proofs.Quote.{quote, auto}
 use Rattle.ring.proofs.Hypotheses.{by_hyp}
 use Rattle.ring.proofs.Field.{Field}

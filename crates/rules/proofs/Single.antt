@@ -1,11 +1,10 @@
 -- A polynomial has one body, and an ideal one offer: what is read as the ideal a is the offer of a.
-use Rattle.std.proofs.Common.{◌≡◌, ℕ, zero, suc, ◌+◌, ◌<◌, ◌≤◌, ◌≢◌, List, [], ◌∷◌, ◌++◌, map, reverse, length, take, drop, sym, refl, ap, ◌∙◌, subst, ap₂, arith}
+use Rattle.std.proofs.Common.{◌≡◌, ℕ, zero, suc, ◌<◌, ◌≢◌, List, [], ◌∷◌, ◌++◌, map, reverse, take, drop, sym, refl, ap, ◌∙◌, subst, ap₂, arith}
 use mathlib.Core.List.{reverse-reverse, reverse-cons}
 use Rattle.field.specs.Meaning.{Meaning, Lawful}
-use Rattle.algebra.specs.Codes.{Code, code, num_code, ring_c, zero_c?, codes, R}
+use Rattle.algebra.specs.Codes.{Code, code, num_code, ring_c, zero_c?}
 use Rattle.ring.proofs.Ring.{CommRing}
-use Rattle.ring.proofs.Coeffs.{Trim, trim_ext, norm, trim_norm, seq_norm}
-use Rattle.ring.proofs.Poly.{Poly, poly}
+use Rattle.ring.proofs.Coeffs.{Trim, trim_ext, seq_norm}
 use Rattle.rules.specs.Questions.{Hold}
 use Rattle.rules.specs.Packets.{All, Bytes, words, Leads, packet_asks, body_asks, body, first, second, start, long, packet, spell}
 use Rattle.rules.specs.Settings.{Accepted, Ideals, body_of, poly_of, offer}

@@ -1,16 +1,15 @@
 -- A polynomial's body is read back as the polynomial.
-use Rattle.std.proofs.Common.{◌≡◌, ℕ, zero, suc, ◌+◌, ◌*◌, ◌%◌, ◌<◌, ◌≤◌, ◌≢◌, List, [], ◌∷◌, ◌++◌, map, reverse, length, sym, refl, ap, ◌∙◌, subst, ap₂, arith}
+use Rattle.std.proofs.Common.{◌≡◌, ℕ, ◌*◌, ◌<◌, ◌≤◌, ◌≢◌, List, [], ◌∷◌, ◌++◌, map, reverse, length, sym, refl, ap, ◌∙◌, subst, ap₂, arith}
 use mathlib.Core.List.{reverse-reverse, reverse-cons}
 use lib.ListN.{length-map, length-reverse}
 use Rattle.field.specs.Meaning.{Meaning, Lawful}
 use Rattle.algebra.specs.Codes.{Code, code, code_ext, num_code, ring_c, codes, R}
 use Rattle.ring.proofs.Ring.{CommRing}
 use Rattle.ring.proofs.Coeffs.{Trim}
-use Rattle.ring.proofs.Poly.{Poly, poly, coef_poly, ext}
-use Rattle.ring.proofs.PolyRing.{PolyRing}
+use Rattle.ring.proofs.Poly.{poly, coef_poly, ext}
 use Rattle.ring.proofs.PolyModel.{poly_ring}
 use Rattle.rules.specs.Questions.{Hold}
-use Rattle.rules.specs.Packets.{All, words, Leads, body_asks, Spells, spell}
+use Rattle.rules.specs.Packets.{All, words, Leads, body_asks, spell}
 use Rattle.rules.specs.Settings.{body_of, poly_of}
 use Rattle.rules.specs.Places.{codes_of, poly_from}
 use Rattle.rules.proofs.Written.{spell_length, words_spell}

@@ -1,16 +1,15 @@
 -- Every question has an answer, and so every end does every call.
-use Rattle.std.proofs.Common.{◌≡◌, ℕ, zero, suc, ◌+◌, ◌-◌, ◌*◌, ◌/◌, ◌%◌, ◌<◌, ◌≤◌, ◌≢◌, List, [], ◌∷◌, ◌++◌, length, replicate, sym, refl, ap, ◌∙◌, subst, ap₂, inl, inr, arith}
+use Rattle.std.proofs.Common.{◌≡◌, ℕ, ◌+◌, ◌-◌, ◌/◌, ◌%◌, ◌<◌, ◌≢◌, List, [], ◌∷◌, ◌++◌, length, replicate, sym, refl, ap, ◌∙◌, subst, arith}
 use mathlib.Core.HLevel.{Discrete}
 use native.Mathlib.Decide.{ℕ_discrete, dec_le, dec_lt}
 use Rattle.field.specs.Meaning.{Meaning, Lawful}
-use Rattle.algebra.specs.Codes.{Code, codes, R}
+use Rattle.algebra.specs.Codes.{codes, R}
 use Rattle.ring.proofs.Ring.{⊗-zero, sub_self→eq}
 use Rattle.ring.proofs.Quote.{quote, auto}
-use Rattle.ring.proofs.Hypotheses.{by_hyp, by_hyp₂}
+use Rattle.ring.proofs.Hypotheses.{by_hyp₂}
 use Rattle.ring.proofs.PolyRing.{PolyRing}
 use Rattle.ring.proofs.PolyModel.{poly_ring}
-use Rattle.ring.proofs.Lengths.{len_pos}
-use Rattle.ring.proofs.Euclid.{Gcd, gcd, common_len, remainder_unique}
+use Rattle.ring.proofs.Euclid.{gcd, common_len, remainder_unique}
 use Rattle.algebra.proofs.Unique.{ideal_path}
 use Rattle.algebra.proofs.Multiples.{times_exists}
 use Rattle.algebra.proofs.Line.{place_exists, place_closest}
@@ -23,7 +22,6 @@ use Rattle.rules.proofs.Offered.{closest_unique}
 use Rattle.rules.proofs.Determined.{code?, key_unique, does_unique}
 use Rattle.rules.proofs.Roots.{accepted_exists}
 use Rattle.ring.proofs.Ring.{Divides}
-use Rattle.algebra.specs.Ideals.{Ideal}
 use Rattle.algebra.specs.Places.{place}
 use Rattle.algebra.specs.Codes.{K}
 

@@ -1,5 +1,5 @@
 -- Ends: what an end is, the calls, the questions of each call in their order, and what an accepted call leaves.
-use Rattle.std.specs.Prelude.{◌≡◌, ℕ, ◌+◌, ◌<◌, ◌≤◌, ◌≢◌, List, [], ◌∷◌, ◌++◌, length, replicate}
+use Rattle.std.specs.Prelude.{◌≡◌, ℕ, ◌<◌, ◌≤◌, ◌≢◌, List, [], ◌∷◌, ◌++◌, length, replicate}
 use Rattle.field.specs.Meaning.{Meaning, Lawful}
 use Rattle.algebra.specs.Codes.{codes, R}
 use Rattle.ring.proofs.PolyModel.{poly_ring}

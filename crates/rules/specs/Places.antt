@@ -3,7 +3,7 @@ use Rattle.std.specs.Prelude.{◌≡◌, ℕ, ◌+◌, ◌<◌, ◌≤◌, List,
 use Rattle.field.specs.Meaning.{Meaning, Lawful}
 use Rattle.algebra.specs.Codes.{Code, code, codes, R}
 use Rattle.ring.proofs.Poly.{poly}
-use Rattle.rules.specs.Questions.{Question, ◌if_not◌, Answer, accepted, refused, Answers}
+use Rattle.rules.specs.Questions.{Question, ◌if_not◌}
 use Rattle.rules.specs.Packets.{All, number}
 use Rattle.rules.specs.Settings.{Accepted, setting}
 use Rattle.rules.specs.Ends.{State, blank, ready, opened, keyed, ideal_asks}

@@ -4,7 +4,7 @@ use Rattle.field.specs.Meaning.{Meaning, Lawful}
 use Rattle.rules.specs.Questions.{Answer, accepted, refused, Answers}
 use Rattle.rules.specs.Packets.{number}
 use Rattle.rules.specs.Settings.{Accepted, setting, Ideals, unit_ideal, Closest, offer}
-use Rattle.rules.specs.Ends.{State, ready, Call, load, «open», tell, take, key, close, Open, Does}
+use Rattle.rules.specs.Ends.{State, ready, Call, «open», tell, take, key, close, Open, Does}
 use Rattle.rules.specs.Places.{Given, Places, Shows, place_asks, AddGives}
 use Rattle.algebra.specs.Lines.{PlaceAt}
 use Rattle.algebra.specs.Codes.{K}

@@ -1,9 +1,8 @@
 -- Settings over a lawful meaning, the ideal closest to the left, and polynomials as bytes.
-use Rattle.std.specs.Prelude.{◌≡◌, ℕ, ◌+◌, ◌<◌, ◌≤◌, ◌≢◌, List, [], ◌∷◌, map, reverse}
+use Rattle.std.specs.Prelude.{◌≡◌, ℕ, ◌+◌, ◌≤◌, List, [], ◌∷◌, map, reverse}
 use Rattle.field.specs.Meaning.{Meaning, Lawful}
 use Rattle.algebra.specs.Codes.{Code, code, codes, R, K}
-use Rattle.ring.proofs.Poly.{Poly, poly}
-use Rattle.ring.proofs.PolyModel.{poly_ring}
+use Rattle.ring.proofs.Poly.{poly}
 use Rattle.ring.proofs.Euclid.{no_square}
 use Rattle.rules.specs.Questions.{Question, ◌if_not◌}
 use Rattle.rules.specs.Packets.{four, words, spell, packet}

@@ -1,10 +1,10 @@
 -- The setting that was read is accepted over a lawful field.
-use Rattle.std.proofs.Common.{◌≡◌, ℕ, ◌-◌, ◌<◌, List, length, Ok, Err, Result, sym, ◌∙◌, subst, ⊎_elim, arith, MatchResult}
+use Rattle.std.proofs.Common.{◌≡◌, ℕ, ◌-◌, ◌<◌, List, length, Ok, Err, Result, sym, ◌∙◌, subst, ⊎_elim, arith}
 use Rattle.std.proofs.lemmas.Bool.{cases_lt}
 use Rattle.field.specs.Meaning.{Meaning, Lawful}
 use Rattle.field.specs.declared.refusal.Refusal.{Refusal}
 use Rattle.rules.specs.Settings.{Accepted}
-use Rattle.poly.specs.Values.{Codes, at}
+use Rattle.poly.specs.Values.{Codes}
 use Rattle.poly.specs.declared.poly.Poly.{Poly}
 use Rattle.poly.proofs.Bridge.{self}
 use Rattle.ideal.specs.Values.{SettingIs}

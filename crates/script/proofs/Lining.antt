@@ -1,5 +1,5 @@
 -- One step of the walk along the line.
-use Rattle.std.proofs.Common.{◌≡◌, ℕ, suc, ◌+◌, ◌-◌, ◌*◌, ◌^◌, ◌<◌, ◌≤◌, min, sym, subst, arith}
+use Rattle.std.proofs.Common.{◌≡◌, ℕ, suc, ◌+◌, ◌-◌, ◌*◌, ◌^◌, ◌<◌, ◌≤◌, min, subst, arith}
 use Rattle.field.specs.Meaning.{Meaning, Lawful}
 use Rattle.ring.proofs.Lengths.{len_pos}
 use Rattle.algebra.specs.Codes.{K}
@@ -7,7 +7,6 @@ use Rattle.algebra.specs.Lines.{Line, start, next}
 use Rattle.algebra.proofs.Line.{line_reduced, line_standard}
 use Rattle.algebra.proofs.Step.{step_far}
 use Rattle.rules.specs.Settings.{Accepted, setting, Ideals}
-use Rattle.ideal.specs.Values.{SettingIs, IdealIs}
 use Rattle.ideal.specs.Results.{Stepped}
 use Rattle.ideal.specs.declared.setting.Setting.{Setting}
 use Rattle.ideal.proofs.Records.{size_is}

@@ -1,6 +1,6 @@
 -- What the codes of a setting are read as.
-use Rattle.std.specs.Prelude.{◌≡◌, ℕ, ◌<◌, ◌≤◌, ◌≢◌, ◌⊎◌, List, length, Ok, Err, Result, MatchResult, slice_index}
-use Rattle.field.specs.Meaning.{Meaning, Lawful}
+use Rattle.std.specs.Prelude.{◌≡◌, ℕ, ◌<◌, ◌≤◌, ◌≢◌, ◌⊎◌, List, length, Err, Result, MatchResult, slice_index}
+use Rattle.field.specs.Meaning.{Meaning}
 use Rattle.field.specs.declared.refusal.Refusal.{Refusal}
 use Rattle.field.specs.declared.refusal.Refusal.TheVariants.{CodeTooLarge, LeadingZero}
 use Rattle.poly.specs.declared.poly.Poly.{Poly}

@@ -1,5 +1,5 @@
 -- How many elements a pile has.
-use Rattle.std.proofs.Common.{◌≡◌, ℕ, ◌*◌, ◌<◌, ◌≤◌, sym, ap, subst, mul-le-mul, arith}
+use Rattle.std.proofs.Common.{◌≡◌, ℕ, ◌*◌, ◌<◌, ◌≤◌, sym, subst, mul-le-mul, arith}
 use Rattle.field.specs.Meaning.{Meaning}
 use Rattle.field.specs.Extensions.{extended}
 use Rattle.tower.specs.declared.pile.Pile.{Pile}

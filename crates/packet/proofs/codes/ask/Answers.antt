@@ -1,4 +1,4 @@
-use Rattle.std.proofs.Common.{◌≡◌, ℕ, ◌/◌, ◌<◌, ◌≤◌, List, length, get_or, sym, refl, ◌∙◌, inl, inr, arith}
+use Rattle.std.proofs.Common.{ℕ, ◌/◌, ◌<◌, ◌≤◌, List, length, get_or, sym, refl, ◌∙◌, inl, inr, arith}
 use Rattle.rules.specs.Packets.{All, words}
 use Rattle.packet.proofs.Words.{words_length, all_at, all_from, leads_at, leads_from}
 use Rattle.packet.proofs.codes.ask.Goals as goal

@@ -1,10 +1,10 @@
-use Rattle.std.proofs.Common.{◌≡◌, ℕ, ◌+◌, ◌-◌, ◌≤◌, List, length, take, drop, sym, refl, ap, ◌∙◌, ap₂, arith}
+use Rattle.std.proofs.Common.{◌≡◌, ℕ, ◌+◌, ◌-◌, List, length, take, drop, sym, ◌∙◌, ap₂, arith}
 use Rattle.std.proofs.lemmas.List.{take_rest}
 use Rattle.rules.specs.Questions.{Hold}
 use Rattle.rules.specs.Packets.{first, second, start, long, packet_asks, Holds}
 use Rattle.rules.proofs.Answering.{hold_answers}
 use Rattle.rules.proofs.Canonical.{holds_written}
-use Rattle.packet.proofs.Entries.{EntryAt, entry_at, all_bytes}
+use Rattle.packet.proofs.Entries.{entry_at, all_bytes}
 use Rattle.packet.proofs.reader.parts.Goals as goal
 
 part : (x : List ℕ) (s n s' n' : ℕ) → s ≡ s' → n ≡ n' → take (s + n - s) (drop s x) ≡ take n' (drop s' x)

@@ -1,4 +1,4 @@
-use Rattle.std.proofs.Common.{◌≡◌, ℕ, ◌+◌, ◌<◌, ◌≤◌, List, length, take, drop, sym, refl, ap, ◌∙◌, ap₂, inl, inr, arith}
+use Rattle.std.proofs.Common.{◌≡◌, ℕ, ◌+◌, List, length, take, drop, refl, ap, ◌∙◌, ap₂, inl, inr, arith}
 use Rattle.rules.specs.Questions.{refused}
 use Rattle.rules.specs.Packets.{packet}
 use Rattle.rules.proofs.Written.{packet_length}

@@ -1,4 +1,3 @@
-use Rattle.std.proofs.Common.{ℕ, List}
 use Rattle.poly.specs.declared.poly.Poly.{Poly}
 use Rattle.packet.proofs.Packed.{writes_offer, offers_back}
 use Rattle.packet.proofs.writer.write_offer.Goals as goal

@@ -1,4 +1,4 @@
-use Rattle.std.proofs.Common.{ℕ, ◌<◌, List, sym, subst}
+use Rattle.std.proofs.Common.{ℕ, ◌<◌, subst}
 use Rattle.field.specs.Meaning.{Meaning}
 use Rattle.poly.specs.declared.poly.Poly.{Poly}
 use Rattle.rules.specs.Packets.{four, packet, spell}

@@ -1,5 +1,4 @@
 use Rattle.std.proofs.Common.{◌≡◌, ℕ, ◌≤◌, length, replicate, sym, ap, ◌∙◌, subst, arith}
-use Rattle.rules.specs.Packets.{number}
 use Rattle.end.proofs.Opening.{number_kept}
 use Rattle.end.proofs.end.open.keep.Goals as goal
 

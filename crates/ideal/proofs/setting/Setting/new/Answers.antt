@@ -1,4 +1,4 @@
-use Rattle.std.proofs.Common.{◌≡◌, sym, refl, inl, inr, arith}
+use Rattle.std.proofs.Common.{sym, refl, inl, inr, arith}
 use Rattle.ring.proofs.PolyModel.{poly_ring}
 use Rattle.algebra.specs.Codes.{K}
 use Rattle.rules.specs.Settings.{EvenDegree, Monic, Coprime}

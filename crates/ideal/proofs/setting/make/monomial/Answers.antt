@@ -1,4 +1,4 @@
-use Rattle.std.proofs.Common.{◌≡◌, ℕ, replicate, ◌∙◌, arith, length-set, get_or-set_other, get_or-set_same}
+use Rattle.std.proofs.Common.{replicate, ◌∙◌, arith, length-set, get_or-set_other, get_or-set_same}
 use Rattle.poly.proofs.Zeros.{zeros}
 use Rattle.ideal.proofs.setting.make.monomial.Goals as goal
 

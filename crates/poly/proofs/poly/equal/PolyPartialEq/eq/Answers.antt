@@ -23,9 +23,9 @@ returns-then-self-i c =
 pub returns : goal.returns
 returns c =
     let w = decides c.args.self.now c.args.other.now true (
-  (λ _. ext_get_or 0 c.args.self.now.raw.coeffs c.args.other.now.raw.coeffs (c.args.self.now.long ∙ sym c.args.other.now.long)
-      (λ k h. ⊎_elim (λ g. c.loop-i.invariant k (omega arith))
-      (λ g. c.args.self.now.past k g ∙ sym (c.args.other.now.past k (omega arith))) (cases_lt k c.args.self.now.raw.len))),
-  λ _. refl,
-) in
+      (λ _. ext_get_or 0 c.args.self.now.raw.coeffs c.args.other.now.raw.coeffs (c.args.self.now.long ∙ sym c.args.other.now.long)
+          (λ k h. ⊎_elim (λ g. c.loop-i.invariant k (omega arith))
+          (λ g. c.args.self.now.past k g ∙ sym (c.args.other.now.past k (omega arith))) (cases_lt k c.args.self.now.raw.len))),
+      λ _. refl,
+    ) in
     record { value = compared _ _ _ w.0; decides = w.0; same = w.1 }
