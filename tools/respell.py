@@ -23,7 +23,9 @@ def table():
 
 
 def words(names, text):
-    return WORD.sub(lambda m: names.get(m.group(0), m.group(0)), text)
+    """A word behind `c.` is the name of a step in a function's proof, which comes from the function's source."""
+    step = lambda m: re.search(r"(?<![\w'.])c\.$", text[max(0, m.start() - 3) : m.start()])
+    return WORD.sub(lambda m: m.group(0) if step(m) else names.get(m.group(0), m.group(0)), text)
 
 
 def quoted(names, text):

@@ -1,5 +1,5 @@
 -- The set I(Q, P) of all u + v·y with Q | u − v·P, over any ring: its generators Q and P + y, its conjugate, and what leaves it as
--- it is: a constant factor of Q, another remainder of P. Then the step as an equation of sets, (P₁ + y)·I(Q, P) = Q-as-I(Q₁, P₁).
+-- it is: a constant factor of Q, another remainder of P. Then the step as an equation of sets, (P₁ + y)·I(Q, P) = Q·I(Q₁, P₁).
 use mathlib.Core.Path.{◌≡◌, ◌∙◌, ap₂}
 use mathlib.Core.Logic.{◌≢◌}
 use mathlib.Core.List.{[], ◌∷◌}

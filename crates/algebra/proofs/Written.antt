@@ -20,7 +20,7 @@ use Rattle.algebra.specs.Places.{Reduces}
 use Rattle.algebra.specs.Worked.{Written, Case, line_at, product_to, written, Shows, Holds, AllHold}
 use Rattle.algebra.proofs.Unique.{standard_by}
 
--- the standard form of some (Q₁, P₁): c·e = 1, Q = c·Q₁, P₁ = q·Q + P, and D − P-as-P = C-as-Q
+-- the standard form of some (Q₁, P₁): c·e = 1, Q = c·Q₁, P₁ = q·Q + P, and D − P·P = C·Q
 pub record Form : Type 0 where
   pub ideal : Written
   pub c : List ℕ
@@ -36,7 +36,7 @@ pub record Turn : Type 0 where
   pub P₁ : List ℕ
   pub to : Form
 
--- a product: s = X-as-Qa + Z-as-Qb + Y·(Pa + Pb), Qa = A·s, Qb = B·s, Pa + Pb = E·s, and where it leads
+-- a product: s = X·Qa + Z·Qb + Y·(Pa + Pb), Qa = A·s, Qb = B·s, Pa + Pb = E·s, and where it leads
 pub record Merge : Type 0 where
   pub s : List ℕ
   pub X : List ℕ
@@ -186,11 +186,11 @@ module _ {M : Meaning} (L : Lawful M) where
         rest [] = []
         rest (_ ∷ l) = l
 
-    -- a written ideal by itself: (D − P-as-P) / Q is C
+    -- a written ideal by itself: (D − P·P) / Q is C
     abbrev pub given : Written → List ℕ → Form
     given a C = record { ideal = a; c = 1 ∷ []; e = 1 ∷ []; q = []; C = C }
 
-    -- what a product of the written ideals a and b claims, and that of its standard form; Ca and Cb are (D − P-as-P) / Q
+    -- what a product of the written ideals a and b claims, and that of its standard form; Ca and Cb are (D − P·P) / Q
     module _ (a b : Written) (Ca Cb : List ℕ) (μ : Merge) where
       abbrev pub merge_left : List (List (List ℕ))
       merge_left =

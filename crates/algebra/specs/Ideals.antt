@@ -16,7 +16,7 @@ module _ {R : Type 0} (r : CommRing R) where
   abbrev pub In : R → R → O R → Type 0
   In Q P ζ = Divides r Q (ζ.u ⊕ ⊖ (ζ.v ⊗ P))
 
-  -- an ideal: Q is not 0 and divides D − P-as-P
+  -- an ideal: Q is not 0 and divides D − P·P
   pub record Ideal (D : R) : Type 0 where
     pub Q : R
     pub P : R

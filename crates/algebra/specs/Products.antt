@@ -1,4 +1,4 @@
--- Products of ideals. S = gcd (Qa, Qb, Pa + Pb) = X-as-Qa + Z-as-Qb + Y·(Pa + Pb); the multipliers X, Y, Z are free.
+-- Products of ideals. S = gcd (Qa, Qb, Pa + Pb) = X·Qa + Z·Qb + Y·(Pa + Pb); the multipliers X, Y, Z are free.
 use Rattle.std.specs.Prelude.{◌≡◌}
 use Rattle.ring.proofs.Ring.{Divides}
 use Rattle.ring.proofs.PolyRing.{PolyRing}
@@ -13,7 +13,7 @@ module _ {C R : Type 0} (K : PolyRing C R) (S : Setting K) where
   open S use {D}
   open r use {◌⊕◌, ⊖◌, ◌⊗◌}
 
-  -- s·(Qc, Pc) is the product of a and b: Qc = Qa-as-Qb / s² and s·Pc = X·Qa·Pb + Z·Qb·Pa + Y·(Pa-as-Pb + D)
+  -- s·(Qc, Pc) is the product of a and b: Qc = Qa·Qb / s² and s·Pc = X·Qa·Pb + Z·Qb·Pa + Y·(Pa·Pb + D)
   pub record Product (a b : Ideal r D) (s Qc Pc : R) : Type 0 where
     pub X : R
     pub Y : R

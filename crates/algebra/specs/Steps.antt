@@ -1,4 +1,4 @@
--- The baby step. From (Q, P), with r the remainder of P + d by Q, it goes to P₁ = d − r and Q₁ = (D − P₁-as-P₁) / Q, and on to
+-- The baby step. From (Q, P), with r the remainder of P + d by Q, it goes to P₁ = d − r and Q₁ = (D − P₁·P₁) / Q, and on to
 -- the standard form of (Q₁, P₁).
 use Rattle.std.specs.Prelude.{◌≡◌, ◌≢◌, ℕ, ◌<◌}
 use Rattle.ring.proofs.PolyRing.{PolyRing}

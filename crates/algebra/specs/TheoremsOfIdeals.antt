@@ -46,7 +46,7 @@ module _ {C R : Type 0} (K : PolyRing C R) (S : Setting K) where
     -- there is one step from a, to an ideal in standard form
     pub exists : (a : Ideal r D) → (b : Ideal r D) × (far : ℕ) × StepTo K S a b far
     pub one_step : (a b c : Ideal r D) (far far' : ℕ) → StepTo K S a b far → StepTo K S a c far' → (b ≡ c) × (far ≡ far')
-    -- (P₁ + y)·I(a) = Q-as-I(b), as sets
+    -- (P₁ + y)·I(a) = Q·I(b), as sets
     pub into : (a b : Ideal r D) (far : ℕ) (σ : StepTo K S a b far) → Sub (order r D) (mk σ.P₁ 𝟙) (I r a) (mk a.Q 𝟘) (I r b)
     pub onto : (a b : Ideal r D) (far : ℕ) (σ : StepTo K S a b far) → Sub (order r D) (mk a.Q 𝟘) (I r b) (mk σ.P₁ 𝟙) (I r a)
     -- so a at f is b at f less the step's length, far − len Q

@@ -114,52 +114,52 @@ again M l₀ r₀ l r l' r' script log line ev h acts sofar L A run st =
     (one_more L A a.longer (event_of line ev) n.state n.does run (events script log) a.extends) n.stands)
 
 -- how far a script has come: the lines done, their log, the ends now
-pub record Sofar {F : Type 0} (meaningOf : F → Meaning) (l₀ r₀ l r : End F) (script rest : List Line) (log : List Event) : Type 0 where
+pub record Sofar {F : Type 0} (meaning_of : F → Meaning) (l₀ r₀ l r : End F) (script rest : List Line) (log : List Event) : Type 0 where
   pub done : List Line
   pub whole : script ≡ done ++ rest
   pub logs : Logs done log
   pub over_left : l.field ≡ l₀.field
   pub over_right : r.field ≡ r₀.field
-  pub agrees : meaningOf r₀.field ≡ meaningOf l₀.field → Converses (meaningOf l₀.field) l₀ r₀ done log l r
+  pub agrees : meaning_of r₀.field ≡ meaning_of l₀.field → Converses (meaning_of l₀.field) l₀ r₀ done log l r
 
-pub at_start : {F : Type 0} (meaningOf : F → Meaning) (l r : End F) (script : List Line) (log : List Event)
-    → log ≡ [] → Sofar meaningOf l r l r script script log
-at_start meaningOf l r script log e = subst (λ (z : List Event). Sofar meaningOf l r l r script script z) (sym e) (record {
+pub at_start : {F : Type 0} (meaning_of : F → Meaning) (l r : End F) (script : List Line) (log : List Event)
+    → log ≡ [] → Sofar meaning_of l r l r script script log
+at_start meaning_of l r script log e = subst (λ (z : List Event). Sofar meaning_of l r l r script script z) (sym e) (record {
   done = [];
   whole = refl;
   logs = tt;
   over_left = refl;
   over_right = refl;
-  agrees = λ _. start (meaningOf l.field) l r;
+  agrees = λ _. start (meaning_of l.field) l r;
 })
 
-pub goes_on : {F : Type 0} (meaningOf : F → Meaning) (l₀ r₀ l r l' r' : End F) (script rest rest' : List Line) (log log' : List Event)
-    (line : Line) (ev : Event) → Sofar meaningOf l₀ r₀ l r script rest log → rest ≡ line ∷ rest' → log' ≡ log ++ ev ∷ [] → ev.side ≡ line.side
-    → Acts (meaningOf l.field) (meaningOf r.field) line.side line.order ev l r l' r' → l'.field ≡ l.field → r'.field ≡ r.field
-    → Sofar meaningOf l₀ r₀ l' r' script rest' log'
-goes_on meaningOf l₀ r₀ l r l' r' script rest rest' log log' line ev so first pushed side acts over over' =
-    subst (λ (z : List Event). Sofar meaningOf l₀ r₀ l' r' script rest' z) (sym pushed) (record {
+pub goes_on : {F : Type 0} (meaning_of : F → Meaning) (l₀ r₀ l r l' r' : End F) (script rest rest' : List Line) (log log' : List Event)
+    (line : Line) (ev : Event) → Sofar meaning_of l₀ r₀ l r script rest log → rest ≡ line ∷ rest' → log' ≡ log ++ ev ∷ [] → ev.side ≡ line.side
+    → Acts (meaning_of l.field) (meaning_of r.field) line.side line.order ev l r l' r' → l'.field ≡ l.field → r'.field ≡ r.field
+    → Sofar meaning_of l₀ r₀ l' r' script rest' log'
+goes_on meaning_of l₀ r₀ l r l' r' script rest rest' log log' line ev so first pushed side acts over over' =
+    subst (λ (z : List Event). Sofar meaning_of l₀ r₀ l' r' script rest' z) (sym pushed) (record {
       done = so.done ++ line ∷ [];
       whole = so.whole ∙ ap (λ (z : List Line). so.done ++ z) first ∙ sym (append_assoc so.done (line ∷ []) rest');
       logs = logs_more so.done log line ev so.logs side;
       over_left = over ∙ so.over_left;
       over_right = over' ∙ so.over_right;
-      agrees = λ same. again (meaningOf l₀.field) l₀ r₀ l r l' r' so.done log line ev so.logs
-          (subst₂ (λ (x y : Meaning). Acts x y line.side line.order ev l r l' r') (ap meaningOf so.over_left) (ap meaningOf so.over_right ∙ same) acts)
+      agrees = λ same. again (meaning_of l₀.field) l₀ r₀ l r l' r' so.done log line ev so.logs
+          (subst₂ (λ (x y : Meaning). Acts x y line.side line.order ev l r l' r') (ap meaning_of so.over_left) (ap meaning_of so.over_right ∙ same) acts)
           (so.agrees same);
     })
 
 -- nothing is left
-module _ {F : Type 0} (meaningOf : F → Meaning) (l₀ r₀ l r : End F) (script rest : List Line) (log : List Event)
-    (so : Sofar meaningOf l₀ r₀ l r script rest log) (none : rest ≡ []) where
+module _ {F : Type 0} (meaning_of : F → Meaning) (l₀ r₀ l r : End F) (script rest : List Line) (log : List Event)
+    (so : Sofar meaning_of l₀ r₀ l r script rest log) (none : rest ≡ []) where
   all_done : so.done ≡ script
   all_done = sym (so.whole ∙ ap (λ (z : List Line). so.done ++ z) none ∙ append-nil so.done)
 
   pub end_logs : Logs script log
   end_logs = subst (λ (z : List Line). Logs z log) all_done so.logs
 
-  pub end_agrees : meaningOf r₀.field ≡ meaningOf l₀.field → Converses (meaningOf l₀.field) l₀ r₀ script log l r
-  end_agrees same = subst (λ (z : List Line). Converses (meaningOf l₀.field) l₀ r₀ z log l r) all_done (so.agrees same)
+  pub end_agrees : meaning_of r₀.field ≡ meaning_of l₀.field → Converses (meaning_of l₀.field) l₀ r₀ script log l r
+  end_agrees same = subst (λ (z : List Line). Converses (meaning_of l₀.field) l₀ r₀ z log l r) all_done (so.agrees same)
 
 -- the run in which nothing has happened yet leaves newly loaded ends
 pub newly_loaded : {F : Type 0} (M : Meaning) (l r l' r' : End F) (script : List Line) (log : List Event)

@@ -36,8 +36,8 @@ with_mode e m = record { field = e.field; mode = m; ideal = e.ideal; distance = 
 
 module _ {F : Type 0} {M : Meaning} (e : End F) (x : List ℕ) where
   pub in_use : (f : Refusal) → f ≡ InUse → ¬ (InBlankOrReady e.mode) → Follows M e (load x) (refused (refusal_number f)) [] e
-  in_use f is-so away = refuses e (load x) (refusal_number f) []
-      (λ L s is. (inr ((λ q. away ((loads_when L e s is).1 q)), ap (λ (d : Refusal). refused (refusal_number d)) is-so), refl))
+  in_use f is_so away = refuses e (load x) (refusal_number f) []
+      (λ L s is. (inr ((λ q. away ((loads_when L e s is).1 q)), ap (λ (d : Refusal). refused (refusal_number d)) is_so), refl))
 
   pub load_refused : (f : Refusal) → InBlankOrReady e.mode → SettingRead M x (Err f) → Follows M e (load x) (refused (refusal_number f)) [] e
   load_refused f ok read = refuses e (load x) (refusal_number f) [] (λ L s is. (inl ((loads_when L e s is).0 ok, read L), refl))

@@ -82,14 +82,14 @@ module _ {F : Type 0} {M : Meaning} (e : End F) (n : List ℕ) (t : Setting) (p 
   pub open_made : one ≡ false → (after : End F) → after.mode ≡ Open t → after.ideal ≡ p.ideal → Left n p.offset after.distance
       → Follows M e («open» n) accepted (replicate (length n) 0) after
   unfolding opens_to
-  open_made o after mode-is ideal_is left L blank is = absurd ((opens_when L e blank is).0 ok)
-  open_made o after mode-is ideal_is left L (ready A) is =
+  open_made o after mode_is ideal_is left L blank is = absurd ((opens_when L e blank is).0 ok)
+  open_made o after mode_is ideal_is left L (ready A) is =
       let A_is = setting_holds L e t (ready A) is holds in
       let h = found L A A_is in
       let to = opens_to L A n p h one asked o in (
         opened A to.0 to.1,
         record { answer = inl (tt, inl (size, inl (to, refl))); after = (refl, (to.0, to.1, to.2, refl)) },
-        (t, mode-is, A_is, subst (λ (i : Ideal). IdealIs L A i to.0) (sym ideal_is) h.2.ideal_is, own_distance L A n p h one asked after.distance left),
+        (t, mode_is, A_is, subst (λ (i : Ideal). IdealIs L A i to.0) (sym ideal_is) h.2.ideal_is, own_distance L A n p h one asked after.distance left),
       )
-  open_made o after mode-is ideal_is left L (opened A a δ) is = absurd ((opens_when L e (opened A a δ) is).0 ok)
-  open_made o after mode-is ideal_is left L (keyed A a δ k) is = absurd ((opens_when L e (keyed A a δ k) is).0 ok)
+  open_made o after mode_is ideal_is left L (opened A a δ) is = absurd ((opens_when L e (opened A a δ) is).0 ok)
+  open_made o after mode_is ideal_is left L (keyed A a δ k) is = absurd ((opens_when L e (keyed A a δ k) is).0 ok)

@@ -89,15 +89,15 @@ module _ (M : Meaning) (t : Setting) (g : GivenPlace) where
   pub p_too_large : ¬ (All (λ c. c < M.size) (codes_down g.p)) → PlaceRead M t g (Err CodeTooLarge)
   p_too_large n L A is = inr ((λ h. n h.1), refl)
 
-  module _ (q_low : All (λ c. c < M.size) (codes_down g.q)) (p-low : All (λ c. c < M.size) (codes_down g.p)) where
+  module _ (q_low : All (λ c. c < M.size) (codes_down g.q)) (p_low : All (λ c. c < M.size) (codes_down g.p)) where
     pub ideal_away : (f : Refusal) → IdealMade M t g.q g.p (Err f) → PlaceRead M t g (Err f)
     ideal_away f made L A is =
         let X = poly_from L (codes_down g.q) in
         let Y = poly_from L (codes_down g.p) in
         inl (
-          (q_low, p-low),
+          (q_low, p_low),
           refused_then (ideal_asks L A X Y) ((g.offset + (K L).len X ≤ A.m if_not 46) ∷ []) (refusal_number f)
-              (made L A X Y is (given_is L g.q q_low) (given_is L g.p p-low)),
+              (made L A X Y is (given_is L g.q q_low) (given_is L g.p p_low)),
         )
 
     asked : (L : Lawful M) (A : Accepted L) (Q : R L) (a : Answer) → Q ≡ poly_from L (codes_down g.q)
@@ -107,21 +107,21 @@ module _ (M : Meaning) (t : Setting) (g : GivenPlace) where
         let X = poly_from L (codes_down g.q) in
         let Y = poly_from L (codes_down g.p) in
         inl (
-          (q_low, p-low),
+          (q_low, p_low),
           accepted_then (ideal_asks L A X Y) (offset_asks L A X g.offset) a h
               (subst (λ (Z : R L). Answers (offset_asks L A Z g.offset) a) Q_is k),
         )
 
     pub place_read : (a : Ideal) → IdealMade M t g.q g.p (Ok a) → (r : Result Place Refusal) → PlaceMade t a g.offset r → PlaceRead M t g r
     place_read a made (Ok p) there L A is =
-        let h = made L A (poly_from L (codes_down g.q)) (poly_from L (codes_down g.p)) is (given_is L g.q q_low) (given_is L g.p p-low) in
-        let (b, Q_is, P_is, standard, b-is) = h.1 in
-        let k = there M L A b is b-is standard in
+        let h = made L A (poly_from L (codes_down g.q)) (poly_from L (codes_down g.p)) is (given_is L g.q q_low) (given_is L g.p p_low) in
+        let (b, Q_is, P_is, standard, b_is) = h.1 in
+        let k = there M L A b is b_is standard in
         (asked L A b.Q accepted Q_is h.0 k.0, (place (K L) (setting L A) b g.offset, (Q_is, P_is, refl), k.1, k.2))
     place_read a made (Err f) there L A is =
-        let h = made L A (poly_from L (codes_down g.q)) (poly_from L (codes_down g.p)) is (given_is L g.q q_low) (given_is L g.p p-low) in
-        let (b, Q_is, P_is, standard, b-is) = h.1 in
-        asked L A b.Q (refused (refusal_number f)) Q_is h.0 (there M L A b is b-is standard)
+        let h = made L A (poly_from L (codes_down g.q)) (poly_from L (codes_down g.p)) is (given_is L g.q q_low) (given_is L g.p p_low) in
+        let (b, Q_is, P_is, standard, b_is) = h.1 in
+        asked L A b.Q (refused (refusal_number f)) Q_is h.0 (there M L A b is b_is standard)
 
 -- A is the setting of the state s
 record Stands {M : Meaning} (L : Lawful M) (s : State L) (A : Accepted L) : Type 1 where
@@ -183,13 +183,13 @@ module _ {F : Type 0} {M : Meaning} (e : End F) (t : Setting) (ok : InLoaded e.m
             let (A, A_is, st) = at_setting L s is in
             let (π, means, lawful, p_is) = (read L A A_is).1 in
             let (ρ, means', lawful', q_is) = (read' L A A_is).1 in
-            let (σ, adds, r-is) = added L A π ρ A_is p_is q_is lawful lawful' in (
+            let (σ, adds, r_is) = added L A π ρ A_is p_is q_is lawful lawful' in (
               inl (
                 (finds_when L e s is).0 ok,
                 st.sums (given g) (given h) accepted
                     (accepted_then (place_asks L A (given g)) (place_asks L A (given h)) accepted (read L A A_is).0 (read' L A A_is).0),
               ),
-              st.under (λ B. AddGives L B (given g) (given h) (shown r)) (π, ρ, σ, means, means', adds, record_shows L A r σ r-is),
+              st.under (λ B. AddGives L B (given g) (given h) (shown r)) (π, ρ, σ, means, means', adds, record_shows L A r σ r_is),
             )
 
         pub sum_on_line : AddedAt M t p q r → AddsOnLine M e g h (Ok r)

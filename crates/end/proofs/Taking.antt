@@ -46,20 +46,20 @@ module _ (M : Meaning) (t : Setting) (x : List ℕ) where
     pub long_q : Longer M (body x first) → OfferRead M t x (Err NotReduced)
     long_q longer L A is = before L A (refused 40) (inr ((λ h. omega (arith, h.1, A.high, longer.long L)), refl))
 
-    module _ (q : Poly) (q-held : Held M (body x first) q) where
+    module _ (q : Poly) (q_held : Held M (body x first) q) where
       -- the ideal of the records q and p
       pub ideal_read : (p : Poly) → Held M (body x second) p → (r : Result Ideal Refusal) → IdealMade M t q p r → OfferRead M t x r
-      ideal_read p p-held (Ok a) made L A is =
-          let h = made L A (poly_of L (body x first)) (poly_of L (body x second)) is (q-held.is L) (p-held.is L) in
-          let (b, Q_is, P_is, standard, b-is) = h.1 in
+      ideal_read p p_held (Ok a) made L A is =
+          let h = made L A (poly_of L (body x first)) (poly_of L (body x second)) is (q_held.is L) (p_held.is L) in
+          let (b, Q_is, P_is, standard, b_is) = h.1 in
           let l = (answers_hold (ideal_asks L A (poly_of L (body x first)) (poly_of L (body x second))) h.0).0.1 in
-          (before L A accepted h.0, (b, (Q_is, P_is), record { standard = standard; fits = omega (arith, ap (K L).len Q_is) }, b-is))
-      ideal_read p p-held (Err f) made L A is =
-          before L A (refused (refusal_number f)) (made L A (poly_of L (body x first)) (poly_of L (body x second)) is (q-held.is L) (p-held.is L))
+          (before L A accepted h.0, (b, (Q_is, P_is), record { standard = standard; fits = omega (arith, ap (K L).len Q_is) }, b_is))
+      ideal_read p p_held (Err f) made L A is =
+          before L A (refused (refusal_number f)) (made L A (poly_of L (body x first)) (poly_of L (body x second)) is (q_held.is L) (p_held.is L))
 
       -- P is longer than any record, and Q meets the same answers in its place
       pub long_p : Longer M (body x second) → (r : Result Ideal Refusal) → IdealMade M t q q r → OfferRead M t x r
-      long_p longer r made L A is = go r (made L A X X is (q-held.is L) (q-held.is L))
+      long_p longer r made L A is = go r (made L A X X is (q_held.is L) (q_held.is L))
         where
           X : R L
           X = poly_of L (body x first)
@@ -160,7 +160,7 @@ module _ {F : Type 0} {M : Meaning} (e : End F) (x : List ℕ) (t : Setting) (ok
 
       pub taken : one' ≡ false → (after : End F) → after.mode ≡ Keyed t → after.ideal ≡ e.ideal → after.distance ≡ e.distance → after.key ≡ m.ideal
           → Follows M e (take x) accepted [] after
-      taken o' after mode-is ideal_is distance_is key-is' = by_open e ok
+      taken o' after mode_is ideal_is distance_is key_is' = by_open e ok
           (λ L s. (s' : State L) × Does L s (take x) accepted [] s' × EndIs L after s')
           (λ L A a δ is.
           (let A_is = setting_holds L e t (opened A a δ) is holds in
@@ -177,10 +177,10 @@ module _ {F : Type 0} {M : Meaning} (e : End F) (x : List ℕ) (t : Setting) (ok
             },
             (
               t,
-              mode-is,
+              mode_is,
               A_is,
               subst (λ (j : Ideal). IdealIs L A j a) (sym ideal_is) is.3,
               ap number distance_is ∙ is.4,
-              subst (λ (j : Ideal). IdealIs L A j τ.0.ideal) (sym key-is') τ.2.ideal_is,
+              subst (λ (j : Ideal). IdealIs L A j τ.0.ideal) (sym key_is') τ.2.ideal_is,
             ),
           )))

@@ -10,4 +10,4 @@ prime_field_meaning f = prime_meaning f.p
 
 -- with the size below as the extension keeps it, which is the size of the meaning below
 abbrev pub extension_meaning : {F : Type 0} → (F → Meaning) → Extension F → Meaning
-extension_meaning of-base e = ext_meaning (of-base e.base) e.q e.n
+extension_meaning of_base e = ext_meaning (of_base e.base) e.q e.n

@@ -134,7 +134,10 @@ impl PartialEq for Refusal {
 
     ghost laws = { Prim.search (comparing, rules) };
 
-    fn eq(&self, other: &Refusal) -> bool {
+    fn eq(&self, other: &Refusal) -> bool
+        ensures value { result ≡ (refusal_number self.now == refusal_number other.now) }
+        ensures decides { Decides result (refusal_number self.now ≡ refusal_number other.now) }
+    {
         self.number() == other.number()
     }
 }

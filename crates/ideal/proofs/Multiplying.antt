@@ -46,7 +46,7 @@ module _ {M : Meaning} (L : Lawful M) (A : Accepted L) (x y : Ideals L A) where
   open K L use {r, len}
   open (K L).r use {𝟘, ◌⊕◌, ⊖◌, ◌⊗◌, ⊗-comm}
 
-  -- s with its multipliers, and the quotients a, b and c of Qa, Qb and D − Pa-as-Pa
+  -- s with its multipliers, and the quotients a, b and c of Qa, Qb and D − Pa·Pa
   pub record Split (s a b c X Y Z : R L) : Type 0 where
     pub sums : s ≡ X ⊗ x.Q ⊕ Z ⊗ y.Q ⊕ Y ⊗ (x.P ⊕ y.P)
     pub left : x.Q ≡ a ⊗ s
@@ -63,14 +63,14 @@ module _ {M : Meaning} (L : Lawful M) (A : Accepted L) (x y : Ideals L A) where
   finished : {q p : Poly} {o : Ideal} (s a b c X X' Y Z k j i t u : R L) → Split s a b c X Y Z
       → X ≡ k ⊗ b ⊕ X' → X' ⊗ (y.P ⊕ ⊖ x.P) ≡ j ⊗ b ⊕ t → Y ⊗ c ≡ i ⊗ b ⊕ u
       → Is L q (a ⊗ b) → Is L p (x.P ⊕ a ⊗ (t ⊕ u)) → Standardized M q p o → Made o s
-  finished s a b c X X' Y Z k j i t u parts hX ht hu is-q is-p standard =
+  finished s a b c X X' Y Z k j i t u parts hX ht hu is_q is_p standard =
       let P : R L = x.P ⊕ a ⊗ (X ⊗ (y.P ⊕ ⊖ x.P) ⊕ Y ⊗ c) in
       let P' : R L = x.P ⊕ a ⊗ (t ⊕ u) in
       let n : R L = k ⊗ (y.P ⊕ ⊖ x.P) ⊕ j ⊕ i in
       let π = product_of (K L) (setting L A) x y s a b c X Y Z parts.sums parts.left parts.right parts.middle parts.rest in
       let h = near r a b c X X' Y x.P (y.P ⊕ ⊖ x.P) k j i t u hX ht hu in
       let exact = remainder_exact r (a ⊗ b) P P' n h A.D (product_exact (K L) (setting L A) x y s (a ⊗ b) P π) in
-      let (z, form, hz) = standard L A (a ⊗ b) P' is-q is-p (product_alive (K L) (setting L A) x y s (a ⊗ b) P π) exact in
+      let (z, form, hz) = standard L A (a ⊗ b) P' is_q is_p (product_alive (K L) (setting L A) x y s (a ⊗ b) P π) exact in
       (a ⊗ b, P, z, π, form_near (K L) (setting L A) (a ⊗ b) P P' n z h form, hz)
 
   -- a quotient of Q by s

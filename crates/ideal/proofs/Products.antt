@@ -24,7 +24,7 @@ module _ {R : Type 0} (r : CommRing R) where
   pub joined : (s g u y x z Qa Qb p : R) → s ≡ u ⊗ g ⊕ y ⊗ p → g ≡ x ⊗ Qa ⊕ z ⊗ Qb → s ≡ u ⊗ x ⊗ Qa ⊕ u ⊗ z ⊗ Qb ⊕ y ⊗ p
   joined s g u y x z Qa Qb p h e = by_hyp₂ r 𝟙 h u e (auto r (s ∷ g ∷ u ∷ y ∷ x ∷ z ∷ Qa ∷ Qb ∷ p ∷ []) (search quote depth 20) tt)
 
-  -- of T the remainder by B is enough, and of X on the way to it: A-as-B divides the difference
+  -- of T the remainder by B is enough, and of X on the way to it: A·B divides the difference
   pub near : (A B c X X' Y P Δ k j i t u : R) → X ≡ k ⊗ B ⊕ X' → X' ⊗ Δ ≡ j ⊗ B ⊕ t → Y ⊗ c ≡ i ⊗ B ⊕ u
       → P ⊕ A ⊗ (X ⊗ Δ ⊕ Y ⊗ c) ≡ (k ⊗ Δ ⊕ j ⊕ i) ⊗ (A ⊗ B) ⊕ (P ⊕ A ⊗ (t ⊕ u))
   near A B c X X' Y P Δ k j i t u hX ht hu =
@@ -38,7 +38,7 @@ module _ {C R : Type 0} (K : PolyRing C R) (S : Setting K) where
   open S use {D}
   open r use {𝟙, ◌⊕◌, ⊖◌, ◌⊗◌}
 
-  -- (A-as-B, Pa + A-as-T) with T = X·(Pb − Pa) + Y-as-C is the product
+  -- (A·B, Pa + A·T) with T = X·(Pb − Pa) + Y·C is the product
   pub product_of : (a b : Ideal r D) (s A B c X Y Z : R) → s ≡ X ⊗ a.Q ⊕ Z ⊗ b.Q ⊕ Y ⊗ (a.P ⊕ b.P)
       → a.Q ≡ A ⊗ s → b.Q ≡ B ⊗ s → Divides r s (a.P ⊕ b.P) → D ⊕ ⊖ (a.P ⊗ a.P) ≡ c ⊗ a.Q
       → Product K S a b s (A ⊗ B) (a.P ⊕ A ⊗ (X ⊗ (b.P ⊕ ⊖ a.P) ⊕ Y ⊗ c))

@@ -129,12 +129,12 @@ module _ {M : Meaning} (L : Lawful M) (A : Accepted L) where
         → (h < M.size) × ((K L).k.◌⊗◌ ((K L).k.◌⊕◌ (K L).k.𝟙 (K L).k.𝟙) (code L h) ≡ (K L).k.𝟙)
         → at term i ≡ c → ((k : ℕ) → k ≢ i → at term k ≡ 0) → Sum M d term r → Filled r (n + 1)
     unfolding poly_ring Polynomials
-    again times minus a-is taken halving there others plus =
+    again times minus a_is taken halving there others plus =
         let v = F.part in
         let u = value L term in
         let squared : Is L product (v ⊗ v) = times L v v F.is F.is (omega (arith, filled_size F, A.high)) in
         let left : Is L rest (A.D ⊕ ⊖ (v ⊗ v)) = minus L A.D (v ⊗ v) D_is squared in
-        let c_is : c ≡ M.product (at rest (A.m + i)) h = taken ∙ ap (λ (b : ℕ). M.product b h) (a-is ∙ ap (λ (b : ℕ). at rest (b + i)) m_is) in
+        let c_is : c ≡ M.product (at rest (A.m + i)) h = taken ∙ ap (λ (b : ℕ). M.product b h) (a_is ∙ ap (λ (b : ℕ). at rest (b + i)) m_is) in
         let low : c < M.size = subst (λ (j : ℕ). j < M.size) (sym c_is) (L.product_closed (at rest (A.m + i)) h (left.low (A.m + i)) halving.0) in
         let wants : (K L).coef u i ≡ (K L).k.◌⊗◌ ((K L).coef (A.D ⊕ ⊖ (v ⊗ v)) (A.m + i)) (code L h) =
         term_coef L c i term there others ∙ ap (code L) c_is

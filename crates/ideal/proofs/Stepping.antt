@@ -29,7 +29,7 @@ module _ {M : Meaning} (L : Lawful M) (A : Accepted L) (x : Ideals L A) (k s : R
   abbrev P₁ : R L
   P₁ = A.d ⊕ ⊖ s
 
-  -- P₁-as-P₁ fits
+  -- P₁·P₁ fits
   square_len : len x.Q ≤ A.m + A.m → len P₁ + len P₁ ≤ 129
   square_len h =
       let a = A.d_len in
@@ -37,7 +37,7 @@ module _ {M : Meaning} (L : Lawful M) (A : Accepted L) (x : Ideals L A) (k s : R
       let c = A.high in
       omega (arith, len_sub (K L) A.d s (A.m + A.m) (omega arith) (omega arith))
 
-  -- Q divides D − P₁-as-P₁
+  -- Q divides D − P₁·P₁
   split : Divides r x.Q (A.D ⊕ ⊖ (P₁ ⊗ P₁))
   split =
       let t = step_split r A.D x.Q x.P P₁ k (step_turn r x.Q x.P A.d k s division) x.exact in

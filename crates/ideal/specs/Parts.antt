@@ -43,7 +43,7 @@ module _ {M : Meaning} (L : Lawful M) where
       pub short : len s < len x.Q
       pub is : Is L p (A.d ⊕ ⊖ s)
 
-    -- s divides Q of both ideals and the sum of their P, and is U·X·Qa + Z-as-Qb + Y·(Pa + Pb) for some Z
+    -- s divides Q of both ideals and the sum of their P, and is U·X·Qa + Z·Qb + Y·(Pa + Pb) for some Z
     pub record DivisorOf (x y : Ideals L A) (pu px py ps : Poly) : Type 0 where
       pub U : R L
       pub X : R L
@@ -70,7 +70,7 @@ module _ {M : Meaning} (L : Lawful M) where
 abbrev pub Exact : Meaning → Poly → Poly → Poly → Type 0
 Exact M a b q = (L : Lawful M) (x y : R L) → Is L a x → Is L b y → y ≢ (K L).r.𝟘 → Divides (K L).r y x → Quotient L x y q
 
--- c is (D − P-as-P) / Q, where Q is not 0 and divides D − P-as-P, and P-as-P fits
+-- c is (D − P·P) / Q, where Q is not 0 and divides D − P·P, and P·P fits
 abbrev pub Cofactor : Meaning → Setting → Poly → Poly → Poly → Type 0
 Cofactor M s p q c = (L : Lawful M) (A : Accepted L) (x y : R L) → SettingIs L A s → Is L p x → Is L q y → (K L).len x + (K L).len x ≤ 129 → y ≢ (K L).r.𝟘
     → Divides (K L).r y ((K L).r.◌⊕◌ A.D ((K L).r.⊖◌ ((K L).r.◌⊗◌ x x)))

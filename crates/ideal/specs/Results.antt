@@ -41,7 +41,7 @@ abbrev pub IsOne : Ideal → Bool → Type 0
 IsOne a r = (M : Meaning) (L : Lawful M) (A : Accepted L) (x : Ideals L A) → IdealIs L A a x → Standard (K L) (setting L A) x
     → Decides r (x ≡ unit_ideal L A)
 
--- b is the standard form of (Q, P), where Q is not 0 and divides D − P-as-P
+-- b is the standard form of (Q, P), where Q is not 0 and divides D − P·P
 abbrev pub Standardized : Meaning → Poly → Poly → Ideal → Type 0
 Standardized M q p b = (L : Lawful M) (A : Accepted L) (x y : R L) → Is L q x → Is L p y
     → x ≢ (K L).r.𝟘 → Divides (K L).r x ((K L).r.◌⊕◌ A.D ((K L).r.⊖◌ ((K L).r.◌⊗◌ y y)))

@@ -4,6 +4,7 @@
 use script::{Fault, Placed, Plan, Shown, Walk, read, request_on, text_of};
 use std::io;
 use std::io::Read;
+use std::process::ExitCode;
 
 fn show_line(rt: &HostRuntime, plan: &Plan) -> io::Result<()> {
     let d = Shown(plan.setting.root());
@@ -26,23 +27,24 @@ fn show_places(rt: &HostRuntime, plan: &Plan, text: &str) -> io::Result<()> {
     Ok(())
 }
 
-fn answer(rt: &HostRuntime, text: &str) -> io::Result<()> {
+fn answer(rt: &HostRuntime, text: &str) -> io::Result<ExitCode> {
     match read(text) {
         Ok(plan) => {
             show_line(rt, &plan)?;
-            show_places(rt, &plan, text)
+            show_places(rt, &plan, text)?;
+            Ok(ExitCode::SUCCESS)
         }
         Err(fault) => refuse(rt, fault),
     }
 }
 
 // One line that says what is wrong, and the exit status 1.
-fn refuse(rt: &HostRuntime, fault: Fault) -> io::Result<()> {
+fn refuse(rt: &HostRuntime, fault: Fault) -> io::Result<ExitCode> {
     eprintln!(rt; "{fault}")?;
-    Err(io::Error::from(io::ErrorKind::InvalidInput))
+    Ok(ExitCode::FAILURE)
 }
 
-fn main(rt: HostRuntime) -> io::Result<()> {
+fn main(rt: HostRuntime) -> io::Result<ExitCode> {
     let mut input = Vec::new(rt.alloc());
     rt.stdin().read_to_end(&mut input)?;
     match text_of(input.as_slice()) {

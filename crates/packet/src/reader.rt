@@ -1,7 +1,7 @@
 // The reader of packets: it puts the questions of a packet in their order, and gives the bodies out as parts of the packet.
 ghost use Rattle.std.specs.Prelude.{◌≡◌, IfOk};
 ghost use Rattle.rules.specs.Questions.{Answers, Answered, answer_of};
-ghost use Rattle.rules.specs.Packets.{packet_asks, Holds, packet as packetOf};
+ghost use Rattle.rules.specs.Packets.{packet_asks, Holds, packet as packet_of};
 ghost use Rattle.packet.specs.Bodies.{first_kind, second_kind, bytes_of, Parts};
 
 use super::body::{Body, Sort};
@@ -12,7 +12,7 @@ use field::Refusal;
 fn parts<'a>(k: u8, l: u8, packet: &'a [u8]) -> Result<(&'a [u8], &'a [u8]), Refusal>
     ensures answers { Answers (packet_asks k l packet.now) (answer_of result) }
     ensures holds { IfOk result (λ b. Holds k l packet.now b.0.now b.1.now) }
-    ensures whole { IfOk result (λ b. packet.now ≡ packetOf k l b.0.now b.1.now) }
+    ensures whole { IfOk result (λ b. packet.now ≡ packet_of k l b.0.now b.1.now) }
 {
     let [count, table @ ..] = packet else {
         return Err(Refusal::PacketTooShort);
@@ -45,7 +45,7 @@ fn parts<'a>(k: u8, l: u8, packet: &'a [u8]) -> Result<(&'a [u8], &'a [u8]), Ref
 pub fn read<'a>(sort: Sort, packet: &'a [u8]) -> Result<(Body<'a>, Body<'a>), Refusal>
     ensures answers { Answered (packet_asks (first_kind sort) (second_kind sort) packet.now) (answer_of result) }
     ensures parts { IfOk result (λ b. Parts sort packet.now b.0 b.1) }
-    ensures whole { IfOk result (λ b. packet.now ≡ packetOf (first_kind sort) (second_kind sort) (bytes_of b.0) (bytes_of b.1)) }
+    ensures whole { IfOk result (λ b. packet.now ≡ packet_of (first_kind sort) (second_kind sort) (bytes_of b.0) (bytes_of b.1)) }
 {
     let (k, l) = sort.kinds();
     let (first, second) = parts(k, l, packet)?;

@@ -32,17 +32,17 @@ Sum M s a b offsets r = (L : Lawful M) (A : Accepted L) (x y : Ideals L A) (f g 
 sum_of : {M : Meaning} {s : Setting} {a b : Ideal} {g : GiantStep} {offsets gap : ℕ} {r : Place} → GiantMade M s a b g → Gap g offsets gap
     → Walked M s (record { ideal = g.ideal; offset = gap }) r → Sum M s a b offsets r
 sum_of {g = g} {offsets = offsets} {gap = gap} made gap_is walked L A x y f k hs hx hy tx ty lx ly e top =
-    let (S, Qc, Pc, z, π, ν, z-is, S-is) = made.multiplied L A x y hs hx hy tx ty lx ly in
+    let (S, Qc, Pc, z, π, ν, z_is, S-is) = made.multiplied L A x y hs hx hy tx ty lx ly in
     let lens = product_len (K L) (setting L A) x y S Qc Pc π in
     let lenz = normal_len (K L) (setting L A) Qc Pc z ν (product_alive (K L) (setting L A) x y S Qc Pc π) in
     let lenS = len_pos (K L) S (s_alive (K L) (setting L A) x y S Qc Pc π) in
     let sizes = size_is L S-is in
-    let (w, ρ, w-is) = made.reduced L A z hs z-is ν.standard (omega arith) in
+    let (w, ρ, w_is) = made.reduced L A z hs z_is ν.standard (omega arith) in
     let less = reduces_saved (K L) (setting L A) ρ in
     let lenw = len_pos (K L) w.Q w.alive in
     let is : gap ≡ offsets + (size g.divisor - 1) + g.saved = gap_is (omega (arith, A.high)) in
     let all : gap + 1 ≡ f + k + (K L).len S + g.saved = omega arith in
-    let (σ, ω, σ-is) = walked L A w hs w-is (reduces_tidy (K L) (setting L A) ρ ν.standard) (reduces_reduced (K L) (setting L A) ρ) (omega arith) in (
+    let (σ, ω, σ-is) = walked L A w hs w_is (reduces_tidy (K L) (setting L A) ρ ν.standard) (reduces_reduced (K L) (setting L A) ρ) (omega arith) in (
       σ,
       record {
         s = S;

@@ -28,7 +28,7 @@ module _ {m : Meaning} (L : Lawful m) where
 
 pub derivative_is : (m : Meaning) (a r : Poly) (n : ℕ) → size a ≤ n + 1 → ((k : ℕ) → k < n → at r k ≡ m.product (times m (suc k)) (at a (suc k)))
     → ((k : ℕ) → n ≤ k → at r k ≡ 0) → Derivative m a r
-derivative_is m a r n a-low h z L x hx = is_below L r (der (codes L) x) n
+derivative_is m a r n a_low h z L x hx = is_below L r (der (codes L) x) n
     (λ k g. subst (λ (c : ℕ). c < m.size) (sym (h k g)) (L.product_closed (times m (suc k)) (at a (suc k)) (times_low L (suc k)) (hx.low (suc k))))
     (λ k g. ap (code L) (h k g) ∙ code_product L (times m (suc k)) (at a (suc k)) (times_low L (suc k)) (hx.low (suc k))
     ∙ ap₂ (ring_c L).◌⊗◌ (times_is L (suc k)) (at_is L hx (suc k)) ∙ sym (coef_der (codes L) x k)) z

@@ -60,10 +60,10 @@ module _ {m : Meaning} (L : Lawful m) (x y : R L) where
   }
 
   -- one digit d more, at i, which takes d x^i y away
-  module _ (b : Poly) (hy : Is L b y) (top u i d : ℕ) (q s r : List ℕ) (b-top : size b ≡ top + 1) (u-low : u < m.size) (u_is : m.product (at b top) u ≡ 1)
-      (h : Partly q s) (d_is : d ≡ m.product (get_or s (i + top) 0) u) (q-long : i < length q) (q-none : get_or q i 0 ≡ 0) (f : Row m s i (m.opposite d) b top r) where
+  module _ (b : Poly) (hy : Is L b y) (top u i d : ℕ) (q s r : List ℕ) (b_top : size b ≡ top + 1) (u_low : u < m.size) (u_is : m.product (at b top) u ≡ 1)
+      (h : Partly q s) (d_is : d ≡ m.product (get_or s (i + top) 0) u) (q_long : i < length q) (q_none : get_or q i 0 ≡ 0) (f : Row m s i (m.opposite d) b top r) where
     d_low : d < m.size
-    d_low = subst (λ (c : ℕ). c < m.size) (sym d_is) (L.product_closed (get_or s (i + top) 0) u (h.s_low (i + top)) u-low)
+    d_low = subst (λ (c : ℕ). c < m.size) (sym d_is) (L.product_closed (get_or s (i + top) 0) u (h.s_low (i + top)) u_low)
 
     D : Code m
     D = code L d
@@ -82,17 +82,17 @@ module _ {m : Meaning} (L : Lawful m) (x y : R L) where
     digits : (n : ℕ) → conv (ring_c L) (read (set q i d)) B n ≡ conv (ring_c L) (read q) B n ⊕ D ⊗ shift (ring_c L) i B n
     unfolding D
     digits n = conv_step (ring_c L) i n (read q) (read (set q i d)) B (code L d)
-        (rw get_or-set_same (sym (ap (λ z. z ⊕ code L d) (ap (code L) q-none ∙ code_zero L) ∙ zero-⊕ (ring_c L) (code L d))))
+        (rw get_or-set_same (sym (ap (λ z. z ⊕ code L d) (ap (code L) q_none ∙ code_zero L) ∙ zero-⊕ (ring_c L) (code L d))))
         (λ k e. rw get_or-set_other refl)
 
     inverse : B top ⊗ code L u ≡ 𝟙
-    inverse = ap (λ z. z ⊗ code L u) (sym (at_is L hy top)) ∙ sym (code_product L (at b top) u (hy.low top) u-low) ∙ ap (code L) u_is ∙ code_one L
+    inverse = ap (λ z. z ⊗ code L u) (sym (at_is L hy top)) ∙ sym (code_product L (at b top) u (hy.low top) u_low) ∙ ap (code L) u_is ∙ code_one L
 
     -- the rest's top coefficient goes
     gone : 𝟘 ≡ read s (i + top) ⊕ ⊖ D ⊗ B top
     unfolding D
     gone = by_hyp (ring_c L) (read s (i + top)) inverse (auto (ring_c L) (read s (i + top) ∷ B top ∷ code L u ∷ []) (search quote depth 20) tt)
-        ∙ ap (λ z. read s (i + top) ⊕ ⊖ z ⊗ B top) (sym (ap (code L) d_is ∙ code_product L (get_or s (i + top) 0) u (h.s_low (i + top)) u-low))
+        ∙ ap (λ z. read s (i + top) ⊕ ⊖ z ⊗ B top) (sym (ap (code L) d_is ∙ code_product L (get_or s (i + top) 0) u (h.s_low (i + top)) u_low))
 
     rest : (n : ℕ) → Dec (n ≡ i + top) → read (set r (i + top) 0) n ≡ read s n ⊕ ⊖ D ⊗ shift (ring_c L) i B n
     unfolding D
@@ -113,8 +113,8 @@ module _ {m : Meaning} (L : Lawful m) (x y : R L) where
   pub step : (b : Poly) → Is L b y → (u i d n : ℕ) (q s r : List ℕ) → 0 < size b → Some u ≡ m.inverse (at b (size b - 1))
       → Partly q s → d ≡ m.product (get_or s (i + (size b - 1)) 0) u → n ≡ m.opposite d → i < length q → get_or q i 0 ≡ 0 → Row m s i n b (size b - 1) r
       → Partly (set q i d) (set r (i + (size b - 1)) 0)
-  step b hy u i d n q s r b-pos u_is h d_is n_is long none f =
-      let ne : at b (size b - 1) ≢ 0 = b.top b-pos in
+  step b hy u i d n q s r b_pos u_is h d_is n_is long none f =
+      let ne : at b (size b - 1) ≢ 0 = b.top b_pos in
       let t = inverse_is L (at b (size b - 1)) u (omega arith) (hy.low (size b - 1)) u_is in
       again b hy (size b - 1) u i d q s r (omega arith) t.0 t.1 h d_is long none
       (subst (λ (c : ℕ). Row m s i c b (size b - 1) r) n_is f)

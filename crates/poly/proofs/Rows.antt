@@ -87,8 +87,8 @@ row_more m old mid i c b n v h l e = record {
 }
 
 -- a row, read as codes: at each place that it covers, or where b has no coefficient
-module _ {m : Meaning} (L : Lawful m) (b : Poly) (y : R L) (hy : Is L b y) (old new : List ℕ) (i c n : ℕ) (c-low : c < m.size)
-    (old-low : (k : ℕ) → get_or old k 0 < m.size) (h : Row m old i c b n new) where
+module _ {m : Meaning} (L : Lawful m) (b : Poly) (y : R L) (hy : Is L b y) (old new : List ℕ) (i c n : ℕ) (c_low : c < m.size)
+    (old_low : (k : ℕ) → get_or old k 0 < m.size) (h : Row m old i c b n new) where
   infixl 60 ◌⊕◌
   infixl 70 ◌⊗◌
   open ring_c L use {𝟘, 𝟙, ◌⊕◌, ◌⊗◌, ⊕-zero}
@@ -97,14 +97,14 @@ module _ {m : Meaning} (L : Lawful m) (b : Poly) (y : R L) (hy : Is L b y) (old 
   row_low k = ⊎_elim (λ g. same (h.before k g)) (λ g. ⊎_elim (inside g) (λ l. same (h.after k l)) (cases_lt k (i + n))) (cases_lt k i)
     where
       same : get_or new k 0 ≡ get_or old k 0 → get_or new k 0 < m.size
-      same e = subst (λ (z : ℕ). z < m.size) (sym e) (old-low k)
+      same e = subst (λ (z : ℕ). z < m.size) (sym e) (old_low k)
 
       inside : i ≤ k → k < i + n → get_or new k 0 < m.size
       inside g l =
           let j : ℕ = k - i in
           let e : i + j ≡ k = omega arith in
           subst (λ (z : ℕ). get_or new z 0 < m.size) e (subst (λ (z : ℕ). z < m.size) (sym (h.inside j (omega arith)))
-          (L.sum_closed (get_or old (i + j) 0) (m.product c (at b j)) (old-low (i + j)) (L.product_closed c (at b j) c-low (hy.low j))))
+          (L.sum_closed (get_or old (i + j) 0) (m.product c (at b j)) (old_low (i + j)) (L.product_closed c (at b j) c_low (hy.low j))))
 
   pub row_is : (k : ℕ) → (i + n ≤ k → i + size b ≤ k) → code L (get_or new k 0) ≡ code L (get_or old k 0) ⊕ code L c ⊗ shift (ring_c L) i (coef (codes L) y) k
   row_is k all = ⊎_elim (λ g. same (h.before k g) (shift_before (ring_c L) i k (coef (codes L) y) g))
@@ -127,6 +127,6 @@ module _ {m : Meaning} (L : Lawful m) (b : Poly) (y : R L) (hy : Is L b y) (old 
           let e : i + j ≡ k = omega arith in
           subst (λ (z : ℕ). code L (get_or new z 0) ≡ code L (get_or old z 0) ⊕ code L c ⊗ shift (ring_c L) i (coef (codes L) y) z) e
           (ap (code L) (h.inside j (omega arith))
-          ∙ code_sum L (get_or old (i + j) 0) (m.product c (at b j)) (old-low (i + j)) (L.product_closed c (at b j) c-low (hy.low j))
-          ∙ ap (λ z. code L (get_or old (i + j) 0) ⊕ z) (code_product L c (at b j) c-low (hy.low j)
+          ∙ code_sum L (get_or old (i + j) 0) (m.product c (at b j)) (old_low (i + j)) (L.product_closed c (at b j) c_low (hy.low j))
+          ∙ ap (λ z. code L (get_or old (i + j) 0) ⊕ z) (code_product L c (at b j) c_low (hy.low j)
           ∙ ap (λ z. code L c ⊗ z) (at_is L hy j ∙ sym (shift_at (ring_c L) i j (coef (codes L) y)))))

@@ -13,7 +13,7 @@ use Rattle.poly.proofs.Bridge.{is_places, is_below, at_is, len_is, code_sum, cod
 
 pub sum_is : {m : Meaning} {a b r : Poly} (n : ℕ) → size a ≤ n → size b ≤ n → ((k : ℕ) → k < n → at r k ≡ m.sum (at a k) (at b k))
     → ((k : ℕ) → n ≤ k → at r k ≡ 0) → Sum m a b r
-sum_is {m} {a} {b} {r} n a-low b-low h z L x y hx hy =
+sum_is {m} {a} {b} {r} n a_low b_low h z L x y hx hy =
     is_below L r (add_p (codes L) x y) n
     (λ k g. subst (λ (c : ℕ). c < m.size) (sym (h k g)) (L.sum_closed (at a k) (at b k) (hx.low k) (hy.low k)))
     (λ k g. ap (code L) (h k g) ∙ code_sum L (at a k) (at b k) (hx.low k) (hy.low k)
@@ -22,7 +22,7 @@ sum_is {m} {a} {b} {r} n a-low b-low h z L x y hx hy =
 
 pub opposite_is : {m : Meaning} {a r : Poly} (n : ℕ) → size a ≤ n → ((k : ℕ) → k < n → at r k ≡ m.opposite (at a k))
     → ((k : ℕ) → n ≤ k → at r k ≡ 0) → Opposite m a r
-opposite_is {m} {a} {r} n a-low h z L x hx =
+opposite_is {m} {a} {r} n a_low h z L x hx =
     is_below L r (neg_p (codes L) x) n
     (λ k g. subst (λ (c : ℕ). c < m.size) (sym (h k g)) (L.opposite_closed (at a k) (hx.low k)))
     (λ k g. ap (code L) (h k g) ∙ code_opposite L (at a k) (hx.low k)
@@ -31,7 +31,7 @@ opposite_is {m} {a} {r} n a-low h z L x hx =
 
 pub difference_is : {m : Meaning} {a b r : Poly} (n : ℕ) → size a ≤ n → size b ≤ n → ((k : ℕ) → k < n → at r k ≡ m.sum (at a k) (m.opposite (at b k)))
     → ((k : ℕ) → n ≤ k → at r k ≡ 0) → Difference m a b r
-difference_is {m} {a} {b} {r} n a-low b-low h z L x y hx hy =
+difference_is {m} {a} {b} {r} n a_low b_low h z L x y hx hy =
     is_below L r (add_p (codes L) x (neg_p (codes L) y)) n
     (λ k g. subst (λ (c : ℕ). c < m.size) (sym (h k g)) (L.sum_closed (at a k) (m.opposite (at b k)) (hx.low k) (L.opposite_closed (at b k) (hy.low k))))
     (λ k g. ap (code L) (h k g) ∙ code_sum L (at a k) (m.opposite (at b k)) (hx.low k) (L.opposite_closed (at b k) (hy.low k))
@@ -53,7 +53,7 @@ module _ {m : Meaning} (L : Lawful m) where
 
 pub scaled_is : {m : Meaning} {c : ℕ} {a r : Poly} (n : ℕ) → size a ≤ n → ((k : ℕ) → k < n → at r k ≡ m.product c (at a k))
     → ((k : ℕ) → n ≤ k → at r k ≡ 0) → Scaled m c a r
-scaled_is {m} {c} {a} {r} n a-low h z L x hc hx =
+scaled_is {m} {c} {a} {r} n a_low h z L x hc hx =
     is_below L r (mul_p (codes L) (constant_p L c) x) n
     (λ k g. subst (λ (j : ℕ). j < m.size) (sym (h k g)) (L.product_closed c (at a k) hc (hx.low k)))
     (λ k g. ap (code L) (h k g) ∙ code_product L c (at a k) hc (hx.low k)

@@ -13,7 +13,7 @@ use Rattle.ring.proofs.PolyModel.{poly_ring}
 use Rattle.algebra.specs.Codes.{code, codes, ring_c, R, K}
 use Rattle.poly.specs.Signs.{◌⊕◌, ◌⊗◌, ⊖◌}
 use Rattle.poly.specs.Values.{at, size, Is}
-use Rattle.poly.specs.Rules.{Divided, Divides, TopOne, Made-monic, Combined}
+use Rattle.poly.specs.Rules.{Divided, Divides, TopOne, MadeMonic, Combined}
 use Rattle.poly.specs.declared.poly.Poly.{Poly}
 use Rattle.poly.proofs.Bridge.{at_is, len_is, code_one}
 use Rattle.poly.proofs.Euclid.{multiple}
@@ -84,7 +84,7 @@ module _ {m : Meaning} (L : Lawful m) where
       go (no z) (yes n) = zero_multiple v (subst (λ (t : R L). Divides L t v) n e) ∙ sym n
       go (no z) (no n) = monic_unique (K L) v w z n (monic p v hv tp) (monic q w hw tq) d e
 
-  pub monic_form_unique : {x : R L} {r s : Poly} (a : Made-monic L x r) (b : Made-monic L x s) → a.made ≡ b.made
+  pub monic_form_unique : {x : R L} {r s : Poly} (a : MadeMonic L x r) (b : MadeMonic L x s) → a.made ≡ b.made
   unfolding Polynomials
   monic_form_unique {x} {r} {s} a b = same_monic r s a.made b.made a.is b.is a.top b.top
       (through a.made x b.made b.up a.down) (through b.made x a.made a.up b.down)
@@ -97,7 +97,7 @@ module _ {m : Meaning} (L : Lawful m) where
       (b.greatest a.d a.left a.right) (a.greatest b.d b.left b.right)
 
   -- the monic form of 0, and the greatest common divisor of 0 and 0
-  pub monic_zero : {r : Poly} (a : Made-monic L (zero_p (codes L)) r) → a.made ≡ zero_p (codes L)
+  pub monic_zero : {r : Poly} (a : MadeMonic L (zero_p (codes L)) r) → a.made ≡ zero_p (codes L)
   monic_zero a = zero_multiple a.made a.up
 
   pub gcd_zero : {p q g : Poly} (a : Combined L (zero_p (codes L)) (zero_p (codes L)) p q g) → a.d ≡ zero_p (codes L)

@@ -92,7 +92,7 @@ abbrev pub Divides : {m : Meaning} (L : Lawful m) → R L → R L → Type 0
 Divides L d x = (w : R L) × (x ≡ w ⊗ d)
 
 -- r and x are multiples of one another, and the leading coefficient of r is 1. So r is 0 where x is 0
-pub record Made-monic {m : Meaning} (L : Lawful m) (x : R L) (r : Poly) : Type 0 where
+pub record MadeMonic {m : Meaning} (L : Lawful m) (x : R L) (r : Poly) : Type 0 where
   pub made : R L
   pub is : Is L r made
   pub up : Divides L x made
@@ -101,7 +101,7 @@ pub record Made-monic {m : Meaning} (L : Lawful m) (x : R L) (r : Poly) : Type 0
 
 -- r is the monic form of a
 abbrev pub Monic : Meaning → Poly → Poly → Type 0
-Monic m a r = (L : Lawful m) (x : R L) → Is L a x → Made-monic L x r
+Monic m a r = (L : Lawful m) (x : R L) → Is L a x → MadeMonic L x r
 
 -- d = u x + v y divides x and y, every common divisor divides it, and its leading coefficient is 1. Where x and y are both 0 it is 0
 pub record Combined {m : Meaning} (L : Lawful m) (x y : R L) (p q g : Poly) : Type 0 where

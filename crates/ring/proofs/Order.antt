@@ -81,7 +81,7 @@ module _ {R : Type 0} (r : CommRing R) (D : R) where
       (auto r (D ∷ a.u ∷ a.v ∷ []) (search quote depth 20) tt)
       (auto r (D ∷ a.u ∷ a.v ∷ []) (search quote depth 20) tt)
 
-  -- the elements u + v·y with Q | u − v·P are closed under sums, and where Q divides D − P-as-P under multiples
+  -- the elements u + v·y with Q | u − v·P are closed under sums, and where Q divides D − P·P under multiples
   module _ (Q P : R) where
     pub in_plus : (ζ η : O R) → Divides r Q (ζ.u ⊕ ⊖ (ζ.v ⊗ P)) → Divides r Q (η.u ⊕ ⊖ (η.v ⊗ P))
         → Divides r Q ((plus ζ η).u ⊕ ⊖ ((plus ζ η).v ⊗ P))

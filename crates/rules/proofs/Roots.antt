@@ -17,8 +17,8 @@ use Rattle.algebra.proofs.Group.{coef_one}
 use Rattle.rules.specs.Settings.{EvenDegree, unit, Monic, Coprime, Accepted}
 use Rattle.algebra.specs.Codes.{K}
 
-module _ {C X : Type 0} (P : PolyRing C X) (mono : C → ℕ → X) (mono-len : (c : C) (n : ℕ) → P.len (mono c n) ≤ n + 1)
-    (mono-coef : (c : C) (n : ℕ) → P.coef (mono c n) n ≡ c) (D : X) (m : ℕ) where
+module _ {C X : Type 0} (P : PolyRing C X) (mono : C → ℕ → X) (mono_len : (c : C) (n : ℕ) → P.len (mono c n) ≤ n + 1)
+    (mono_coef : (c : C) (n : ℕ) → P.coef (mono c n) n ≡ c) (D : X) (m : ℕ) where
   infixl 60 ◌⊕◌
   infixl 70 ◌⊗◌
   infix 80 ⊖◌
@@ -38,7 +38,7 @@ module _ {C X : Type 0} (P : PolyRing C X) (mono : C → ℕ → X) (mono-len : 
       let (g, gg) = half P in
       let t = g ⊗ u in
       let lg : len g ≡ 1 = sym (twice P g) ∙ ap len gg ∙ P.len_one in
-      let lu : len u ≤ j + 1 = mono-len (coef e (j + m)) j in
+      let lu : len u ≤ j + 1 = mono_len (coef e (j + m)) j in
       let lt : len t ≤ j + 1 = len_mul_≤ P g u (j + 1) (omega arith) in
       let tt' : t ⊕ t ≡ u = by_hyp r u gg (auto r (g ∷ u ∷ []) (search quote depth 20) tt) in
       let ld : len d ≡ m + 1 = N.long in
@@ -48,7 +48,7 @@ module _ {C X : Type 0} (P : PolyRing C X) (mono : C → ℕ → X) (mono-len : 
       let lq : len q ≤ j + m + 1 = P.len_add (u ⊗ d) (t ⊗ t) (j + m + 1) l₁ (omega arith) in
       let cq : coef q (j + m) ≡ coef e (j + m) =
       P.coef_add (u ⊗ d) (t ⊗ t) (j + m)
-      ∙ ap₂ k.◌⊕◌ (P.coef_mul u d j m lu (omega arith) ∙ ap₂ k.◌⊗◌ (mono-coef (coef e (j + m)) j) N.monic ∙ k.⊗-one (coef e (j + m)))
+      ∙ ap₂ k.◌⊕◌ (P.coef_mul u d j m lu (omega arith) ∙ ap₂ k.◌⊗◌ (mono_coef (coef e (j + m)) j) N.monic ∙ k.⊗-one (coef e (j + m)))
       (P.coef_past (t ⊗ t) (j + m) l₂)
       ∙ k.⊕-zero (coef e (j + m)) in
       let le : len e ≤ j + m + 1 = omega (arith, N.near) in
@@ -80,7 +80,7 @@ module _ {C X : Type 0} (P : PolyRing C X) (mono : C → ℕ → X) (mono-len : 
       d = mono k.𝟙 m
 
       cd : coef d m ≡ k.𝟙
-      cd = mono-coef k.𝟙 m
+      cd = mono_coef k.𝟙 m
 
       one_alive : k.𝟙 ≢ k.𝟘
       one_alive z = P.coef_top 𝟙 0 (omega (arith, P.len_one)) (coef_one P ∙ z)
@@ -88,7 +88,7 @@ module _ {C X : Type 0} (P : PolyRing C X) (mono : C → ℕ → X) (mono-len : 
       ld : len d ≡ m + 1
       ld = elim (dec_le (len d) m) [
         | yes h ↦ absurd (one_alive (sym cd ∙ P.coef_past d m h))
-        | no h ↦ omega (arith, mono-len k.𝟙 m)
+        | no h ↦ omega (arith, mono_len k.𝟙 m)
       ]
 
 -- c times the n-th power of x

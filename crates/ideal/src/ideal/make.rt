@@ -67,7 +67,7 @@ impl Ideal {
     }
 
     // The reduced ideal (Q, P), or the first question with the answer no: 40 Q has a degree from 0 to m − 1, 41 Q is monic,
-    // 42 P has lower degree than Q, 43 Q divides D − P.P.
+    // 42 P has lower degree than Q, 43 Q divides D − P·P.
     pub fn new<F: Field>(f: &F, setting: &Setting, q: &Poly, p: &Poly) -> Result<Ideal, Refusal>
         ensures made { IdealMade (F.meaning f.now) setting.now q.now p.now result }
         ensures same { MatchResult result (λ a. (a.q ≡ q.now) × (a.p ≡ p.now)) (λ _. Unit) }

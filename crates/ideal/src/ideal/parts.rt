@@ -3,7 +3,7 @@ use poly::Poly;
 
 #[derive(Clone, Copy)]
 pub(super) struct Parts {
-    // S, the monic greatest common divisor of Qa, Qb and Pa + Pb, is U.X.Qa + Z.Qb + Y·(Pa + Pb) for some Z
+    // S, the monic greatest common divisor of Qa, Qb and Pa + Pb, is U·X·Qa + Z·Qb + Y·(Pa + Pb) for some Z
     pub(super) s: Poly,
     pub(super) u: Poly,
     pub(super) x: Poly,
@@ -12,6 +12,6 @@ pub(super) struct Parts {
     pub(super) a: Poly,
     // B = Qb / S
     pub(super) b: Poly,
-    // C = (D − Pa.Pa) / Qa
+    // C = (D − Pa·Pa) / Qa
     pub(super) c: Poly,
 }

@@ -48,7 +48,7 @@ impl Ideal {
         }
     }
 
-    // The standard form of (A.B, Pa + A.T), with T = U·X·(Pb − Pa) + Y.C. Of T the remainder by B is enough, since A.B divides
+    // The standard form of (A·B, Pa + A·T), with T = U·X·(Pb − Pa) + Y·C. Of T the remainder by B is enough, since A·B divides
     // the difference.
     fn joined<F: Field>(&self, f: &F, other: &Ideal, parts: &Parts) -> Ideal
         ensures { (s : Setting) → Parted (F.meaning f.now) s self.now other.now parts.now → Multiplied (F.meaning f.now) s self.now other.now result parts.now.s }

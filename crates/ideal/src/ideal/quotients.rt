@@ -13,7 +13,7 @@ pub(super) fn exact<F: Field>(f: &F, a: &Poly, b: &Poly) -> Poly
     q
 }
 
-// (D − P.P) / Q, where Q divides D − P.P.
+// (D − P·P) / Q, where Q divides D − P·P.
 pub(super) fn cofactor<F: Field>(f: &F, setting: &Setting, p: &Poly, q: &Poly) -> Poly
     ensures { Cofactor (F.meaning f.now) setting.now p.now q.now result }
 {

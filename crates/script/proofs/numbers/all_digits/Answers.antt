@@ -1,5 +1,5 @@
 use Rattle.std.proofs.Common.{arith}
-use Rattle.script.proofs.Digits.{all_digits, no_digit}
+use Rattle.script.proofs.Digits.{all_digits_lem, no_digit}
 use Rattle.script.proofs.numbers.all_digits.Goals as goal
 
 pub returns-then-not-is_ascii_digit : goal.returns-then-not-is_ascii_digit
@@ -7,4 +7,4 @@ returns-then-not-is_ascii_digit c =
     no_digit _ _ c.loop-b-test.true (λ digit. omega (arith, c.if-not-is_ascii_digit.ensures.cases))
 
 pub returns : goal.returns
-returns c = all_digits _ _ c.loop-b-test.false c.loop-b.invariant
+returns c = all_digits_lem _ _ c.loop-b-test.false c.loop-b.invariant
