@@ -1,7 +1,7 @@
 // A guard around secret bytes: whatever way a call goes, they are zero when it is left.
 ghost use Rattle.std.specs.Prelude.{◌≡◌, length, replicate};
 
-pub(crate) struct Guard<'a>(pub &'a mut [u8]);
+pub struct Guard<'a>(pub &'a mut [u8]);
 
 impl Drop for Guard<'_> {
     fn drop(self)

@@ -10,4 +10,5 @@ mod guard;
 mod modes;
 
 pub use end::{End, GivenPlace};
+pub use guard::Guard;
 pub use modes::Mode;

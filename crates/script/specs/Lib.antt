@@ -4,3 +4,4 @@ pub mod Grounds
 pub mod Plans
 pub mod Requests
 pub mod Walks
+pub mod Wording

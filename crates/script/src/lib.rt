@@ -17,6 +17,7 @@ mod walk;
 mod wide;
 mod words;
 
+pub use codes::Codes;
 pub use fault::{Fault, Problem};
 pub use numbers::{is_number, number};
 pub use plan::{Plan, read, request_on};
@@ -25,3 +26,4 @@ pub use show::Shown;
 pub use text::text_of;
 pub use walk::{Stop, Walk};
 pub use wide::{Wide, wide_number};
+pub use words::Words;

@@ -1,5 +1,7 @@
 // The words of a line.
-ghost use Rattle.std.specs.Prelude.{◌≤◌, IfOk};
+ghost use Rattle.std.specs.Prelude.{◌≡◌, ℕ, ◌≤◌, List, IfOk, IfErr, MatchOption};
+ghost use Rattle.std.specs.Str.Parse.{IsNumeral, digits_value};
+ghost use Rattle.script.specs.Wording.{rest_of, HasNoWord, NextWord};
 
 use crate::codes::Codes;
 use crate::fault::Problem;
@@ -13,20 +15,25 @@ pub struct Words<'a> {
 }
 
 impl<'a> Words<'a> {
-    pub(crate) fn of(line: &'a str) -> Words<'a> {
+    pub fn of(line: &'a str) -> Words<'a>
+        ensures { rest_of result ≡ line.now }
+    {
         Words {
             rest: line.split_whitespace(),
         }
     }
 
     // The next word, if there is one.
-    pub(crate) fn word(&mut self) -> Option<&'a str> {
+    pub fn word(&mut self) -> Option<&'a str>
+        ensures { MatchOption result (HasNoWord (rest_of self.old)) (λ w. NextWord (rest_of self.old) w.now (rest_of self.new)) }
+    {
         self.rest.next()
     }
 
     // The next word as a number of `most` at most.
-    pub(crate) fn number(&mut self, most: u32) -> Result<u32, Problem>
-        ensures { IfOk result (λ n. n ≤ most) }
+    pub fn number(&mut self, most: u32) -> Result<u32, Problem>
+        ensures small { IfOk result (λ n. n ≤ most) }
+        ensures reads { IfOk result (λ n. (w : List ℕ) × NextWord (rest_of self.old) w (rest_of self.new) × IsNumeral 10 w × (n ≡ digits_value 10 w)) }
     {
         match self.word() {
             None => Err(Problem::MissingNumber),
@@ -56,7 +63,10 @@ impl<'a> Words<'a> {
     }
 
     // That no word is left.
-    pub(crate) fn end(&mut self) -> Result<(), Problem> {
+    pub fn end(&mut self) -> Result<(), Problem>
+        ensures none { IfOk result (λ _. HasNoWord (rest_of self.old)) }
+        ensures extra { IfErr result (λ e. (e ≡ Problem.ExtraWord) × (w : List ℕ) × NextWord (rest_of self.old) w (rest_of self.new)) }
+    {
         match self.word() {
             None => Ok(()),
             Some(_) => Err(Problem::ExtraWord),

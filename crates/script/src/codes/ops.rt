@@ -7,6 +7,15 @@ use crate::fault::Problem;
 use poly::Poly;
 
 impl Codes {
+    pub fn none() -> Codes
+        ensures { code_list result ≡ [] }
+    {
+        Codes {
+            list: [0; 128],
+            len: 0,
+        }
+    }
+
     pub(crate) fn new(first: u32) -> Codes
         ensures { code_list result ≡ first ∷ [] }
     {
@@ -16,7 +25,7 @@ impl Codes {
     }
 
     // One more code, of the next lower degree.
-    pub(crate) fn push(&mut self, code: u32) -> Result<(), Problem>
+    pub fn push(&mut self, code: u32) -> Result<(), Problem>
         ensures { MatchResult result (λ _. code_list self.new ≡ code_list self.old ++ (code ∷ [])) (λ e. (e ≡ Problem.TooManyCoefficients) × (length (code_list self.old) ≡ 128) × (self.new ≡ self.old)) }
     {
         if self.len >= 128 {
@@ -34,7 +43,7 @@ impl Codes {
     }
 
     // The polynomial of these codes.
-    pub(crate) fn polynomial(&self) -> Poly
+    pub fn polynomial(&self) -> Poly
         ensures { Spelled (code_list self.now) result }
     {
         let codes = self.as_slice();
