@@ -15,5 +15,3 @@ pub mod Multiples
 pub mod PolynomialTheorems
 pub mod IdealTheorems
 pub mod PlaceTheorems
-pub mod Written
-pub mod Five

@@ -10,4 +10,3 @@ pub mod Lines
 pub mod TheoremsOfPolynomials
 pub mod TheoremsOfIdeals
 pub mod TheoremsOfPlaces
-pub mod Worked

@@ -1,5 +1,7 @@
 // Scripts and logs.
+use end::GivenPlace;
 use field::Refusal;
+use place::Place;
 
 // Which of the two ends.
 #[derive(Clone, Copy)]
@@ -8,7 +10,7 @@ pub enum Side {
     Right,
 }
 
-// A call with what it is handed: bytes, or the length of the buffer to write to.
+// A call with what it is handed: bytes, the length of the buffer to write to, or places.
 #[derive(Drop)]
 pub enum Order {
     Load(Vec<u8>),
@@ -17,6 +19,8 @@ pub enum Order {
     Take(Vec<u8>),
     Key(usize),
     Close,
+    Find(Vec<u8>),
+    Add(GivenPlace, GivenPlace),
 }
 
 // One call of a script.
@@ -26,10 +30,17 @@ pub struct Line {
     pub order: Order,
 }
 
-// What came of a call: its answer and the bytes that it wrote. Open writes zeros over the secret.
+// What a call hands out: the bytes that it wrote, or a place. Open writes zeros over the secret; what is refused writes nothing else.
+#[derive(Drop)]
+pub enum Output {
+    Wrote(Vec<u8>),
+    Gave(Place),
+}
+
+// What came of a call.
 #[derive(Drop)]
 pub struct Event {
     pub side: Side,
     pub answer: Result<(), Refusal>,
-    pub written: Vec<u8>,
+    pub output: Output,
 }
