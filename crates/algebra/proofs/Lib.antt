@@ -15,3 +15,5 @@ pub mod Multiples
 pub mod PolynomialTheorems
 pub mod IdealTheorems
 pub mod PlaceTheorems
+pub mod Written
+pub mod Five

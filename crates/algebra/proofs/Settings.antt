@@ -1,4 +1,5 @@
--- The root part d of a setting is one, once its leading coefficient is given.
+-- Making a setting: where D and its derivative have 1 among their combinations, no square divides D. And the root part d is one,
+-- once its leading coefficient is given.
 use mathlib.Core.Path.{◌≡◌, ◌∙◌, ap}
 use mathlib.Core.List.{[], ◌∷◌}
 use Prim.Native.Nat.{ℕ, ◌+◌, ◌≤◌}
@@ -7,6 +8,22 @@ use Rattle.ring.proofs.Ring.{sub_self→eq}
 use Rattle.ring.proofs.Quote.{quote, auto}
 use Rattle.ring.proofs.PolyRing.{PolyRing}
 use Rattle.ring.proofs.Lengths.{len_pos, pos_len, len_sub, top_cancel, twice, longer}
+use Rattle.ring.proofs.Euclid.{no_square, common_len}
+use Rattle.algebra.specs.Settings.{Setting}
+
+abbrev pub setting_by : {C R : Type 0} (K : PolyRing C R) (D d : R) (m : ℕ) (x y : R) → 2 ≤ m → K.len d ≡ m + 1 → K.len D ≡ m + m + 1
+    → K.len (K.r.◌⊕◌ D (K.r.⊖◌ (K.r.◌⊗◌ d d))) ≤ m
+    → K.r.◌⊕◌ (K.r.◌⊗◌ x D) (K.r.◌⊗◌ y (K.der D)) ≡ K.r.𝟙 → Setting K
+setting_by K D d m x y big dl Dl rest e = record {
+  D = D;
+  d = d;
+  m = m;
+  m_big = big;
+  d_len = dl;
+  D_len = Dl;
+  rest = rest;
+  squarefree = no_square K D (λ g. common_len K D (K.der D) x y g e);
+}
 
 module _ {C R : Type 0} (K : PolyRing C R) where
   infixl 60 ◌⊕◌

@@ -10,3 +10,4 @@ pub mod Lines
 pub mod TheoremsOfPolynomials
 pub mod TheoremsOfIdeals
 pub mod TheoremsOfPlaces
+pub mod Worked

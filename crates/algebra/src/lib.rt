@@ -7,6 +7,7 @@
 mod ideals;
 mod places;
 mod polynomials;
+mod worked;
 
 pub use ideals::{
     degrees_add, equivalent_places_are_equal, products_are_one, quadratic_ring_has_norms,
@@ -20,3 +21,4 @@ pub use polynomials::{
     coefficients_decide, derivative_rules, division_is_one, gcds_have_multipliers,
     leading_coefficients_multiply, lengths_add, polynomials_are_a_ring, square_factors_are_shared,
 };
+pub use worked::worked_cases;

@@ -43,10 +43,9 @@ module _ {M : Meaning} (L : Lawful M) (A : Accepted L) where
     longer = longer;
     extends = x;
     stands = s;
-    offers = (agreement M L A).offers longer;
-    meets = (agreement M L A).meets longer;
-    sums = (agreement M L A).sums longer;
-    finds = (agreement M L A).finds longer;
+    offers = (agreement M L A).a longer;
+    meets = (agreement M L A).b longer;
+    sums = (agreement M L A).c;
   }
 
   nothing : (run : Run L A) → Extends L A run [] run
@@ -57,7 +56,7 @@ module _ {M : Meaning} (L : Lawful M) (A : Accepted L) where
   }
 
   module _ (run : Run L A) (ev : Happening) (s : State L)
-      (does : Does L (run.end ev.side run.count) ev.call ev.answer ev.output s) where
+      (does : Does L (run.end ev.side run.count) ev.call ev.answer ev.written s) where
     one_more : (first : Run L A) (es : List Happening) → Extends L A first es run → Extends L A first (es ++ ev ∷ []) (longer_run L A run ev s does)
     one_more first es x = record {
       count = omega (arith, length_push es ev, x.count);
@@ -75,7 +74,7 @@ module _ {M : Meaning} (L : Lawful M) (A : Accepted L) where
   -- the state that a line's call leaves, and both ends after it
   pub record Next {F : Type 0} (run : Run L A) (ev : Happening) (l r : End F) : Type 0 where
     pub state : State L
-    pub does : Does L (run.end ev.side run.count) ev.call ev.answer ev.output state
+    pub does : Does L (run.end ev.side run.count) ev.call ev.answer ev.written state
     pub stands : Stands L A (longer_run L A run ev state does) l r
 
   next : {F : Type 0} (run : Run L A) (σ : Side) (o : Order) (ev : Event) (l r l' r' : End F) → Stands L A run l r → Acts M M σ o ev l r l' r'

@@ -1,13 +1,13 @@
 -- What a script of calls at two ends makes of a run.
-use Rattle.std.specs.Prelude.{◌≡◌, ℕ, ◌+◌, ◌<◌, List, [], ◌∷◌, length, slice_index_or}
+use Rattle.std.specs.Prelude.{◌≡◌, ℕ, ◌+◌, ◌<◌, List, [], ◌∷◌, length, vec_items, slice_index_or}
 use Rattle.field.specs.Meaning.{Meaning, Lawful}
 use Rattle.rules.specs.Questions.{answer_of}
 use Rattle.rules.specs.Settings.{Accepted}
 use Rattle.rules.specs.Ends.{ready}
-use Rattle.rules.specs.Runs.{Side as Where, left, right, Event as Happening, Run, OffersOf, Meets, SumsOf, FindsOf}
+use Rattle.rules.specs.Runs.{Side as Where, left, right, Event as Happening, Run, OffersOf, Meets, SumsOf}
 use Rattle.end.specs.Values.{EndIs}
 use Rattle.end.specs.declared.end.End.{End}
-use Rattle.dialogue.specs.Scripts.{call_of, output_of, Performed}
+use Rattle.dialogue.specs.Scripts.{call_of, Performed}
 use Rattle.dialogue.specs.declared.script.Side.{Side}
 use Rattle.dialogue.specs.declared.script.Side.TheVariants.{Left, Right}
 use Rattle.dialogue.specs.declared.script.Order.{Order}
@@ -29,7 +29,7 @@ event_of line ev = record {
   side = side_of line.side;
   call = call_of line.order;
   answer = answer_of ev.answer;
-  output = output_of ev.output;
+  written = vec_items ev.written;
 }
 
 -- the events of a script with its log
@@ -64,8 +64,7 @@ module _ {M : Meaning} (L : Lawful M) (A : Accepted L) where
     pub stands : Stands longer l r
     pub offers : OffersOf L A longer
     pub meets : Meets L A longer
-    pub sums : SumsOf L A longer
-    pub finds : FindsOf L A longer
+    pub sums : SumsOf L A
 
 -- for every lawful field, every accepted setting and every run that left the ends l and r
 abbrev pub Converses : {F : Type 0} → Meaning → End F → End F → List Line → List Event → End F → End F → Type 0

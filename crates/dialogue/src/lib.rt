@@ -7,7 +7,9 @@
 mod calls;
 mod script;
 mod talk;
+#[cfg(test)]
+mod tests;
 
 pub use calls::perform;
-pub use script::{Event, Line, Order, Output, Side};
+pub use script::{Event, Line, Order, Side};
 pub use talk::converse;

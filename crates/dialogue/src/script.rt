@@ -1,7 +1,5 @@
 // Scripts and logs.
-use end::GivenPlace;
 use field::Refusal;
-use place::Place;
 
 // Which of the two ends.
 #[derive(Clone, Copy)]
@@ -10,7 +8,7 @@ pub enum Side {
     Right,
 }
 
-// A call with what it is handed: bytes, the length of the buffer to write to, or places.
+// A call with what it is handed: bytes, or the length of the buffer to write to.
 #[derive(Drop)]
 pub enum Order {
     Load(Vec<u8>),
@@ -19,8 +17,6 @@ pub enum Order {
     Take(Vec<u8>),
     Key(usize),
     Close,
-    Find(Vec<u8>),
-    Add(GivenPlace, GivenPlace),
 }
 
 // One call of a script.
@@ -30,17 +26,10 @@ pub struct Line {
     pub order: Order,
 }
 
-// What a call hands out: the bytes that it wrote, or a place. Open writes zeros over the secret; what is refused writes nothing else.
-#[derive(Drop)]
-pub enum Output {
-    Wrote(Vec<u8>),
-    Gave(Place),
-}
-
-// What came of a call.
+// What came of a call: its answer and the bytes that it wrote. Open writes zeros over the secret.
 #[derive(Drop)]
 pub struct Event {
     pub side: Side,
     pub answer: Result<(), Refusal>,
-    pub output: Output,
+    pub written: Vec<u8>,
 }

@@ -1,5 +1,5 @@
 // Scripts of an exchange, and what their logs have.
-use dialogue::{Event, Line, Order, Output, Side};
+use dialogue::{Event, Line, Order, Side};
 use std::alloc::{AllocError, Global};
 
 // Enough for every offer: 11 bytes, 25 codes of Q and 24 of P.
@@ -49,10 +49,7 @@ pub fn closing(told: &[Event], heap: Global) -> Result<Vec<Line>, AllocError> {
 // What the event at an index wrote.
 pub fn written(log: &[Event], i: usize, heap: Global) -> Result<Vec<u8>, AllocError> {
     match log.get(i) {
-        Some(event) => match &event.output {
-            Output::Wrote(bytes) => Vec::from_slice(heap, bytes),
-            Output::Gave(_) => Ok(Vec::new(heap)),
-        },
+        Some(event) => Vec::from_slice(heap, &event.written),
         None => Ok(Vec::new(heap)),
     }
 }

@@ -1,20 +1,14 @@
-// Exchanges over every kind of field, and worked ones in the smallest setting.
+// Exchanges over every kind of field, and calls out of turn in the smallest setting.
 use crate::agree::{agree, loaded};
-use crate::scripts::{add, answer, closing, opening, written};
-use dialogue::{Event, Order, Output, Side, converse};
-use field::{Extension, Prime, Refusal};
-use std::alloc::Global;
+use crate::scripts::{add, answer, written};
+use dialogue::{Order, Side, converse};
+use field::{Extension, Prime};
 use std::test::Fail;
 
 // The packet of x^4 + x + 1 over 5.
 const SETTING: [u8; 35] = [
     2, 1, 0, 11, 0, 4, 2, 0, 15, 0, 20, 0, 0, 0, 5, 0, 0, 0, 1, 0, 0, 0, 0, 0, 0, 0, 0, 0, 0, 0, 1,
     0, 0, 0, 1,
-];
-
-// The offer of (x, 1).
-const KEY: [u8; 23] = [
-    2, 3, 0, 11, 0, 8, 4, 0, 19, 0, 4, 0, 0, 0, 1, 0, 0, 0, 0, 0, 0, 0, 1,
 ];
 
 // Secrets of both sides over ten prime fields.
@@ -59,38 +53,7 @@ fn extensions(rt: HostRuntime) -> Result<(), Fail> {
     Ok(())
 }
 
-// Both scripts of an exchange in the smallest setting, with secrets of one byte.
-fn exchange(left_secret: u8, right_secret: u8, heap: Global) -> Result<Vec<Event>, Fail> {
-    let mut left = loaded(Prime::new(5)?, &SETTING)?;
-    let mut right = loaded(Prime::new(5)?, &SETTING)?;
-    let script = opening(&[left_secret], &[right_secret], heap)?;
-    let told = converse(&mut left, &mut right, script, heap)?;
-    Ok(converse(&mut left, &mut right, closing(&told, heap)?, heap)?)
-}
-
-#[test]
-fn equal_keys(rt: HostRuntime) -> Result<(), Fail> {
-    let heap = rt.alloc();
-    let log = exchange(5, 3, heap)?;
-    assert_eq!(rt; log.len(), 4);
-    assert_eq!(rt; answer(&log, 0), 0);
-    assert_eq!(rt; answer(&log, 1), 0);
-    assert!(rt; written(&log, 2, heap)?.as_slice() == &KEY[..]);
-    assert!(rt; written(&log, 3, heap)?.as_slice() == &KEY[..]);
-    Ok(())
-}
-
-#[test]
-fn trivial_key(rt: HostRuntime) -> Result<(), Fail> {
-    let log = exchange(3, 3, rt.alloc())?;
-    assert_eq!(rt; answer(&log, 0), 45);
-    assert_eq!(rt; answer(&log, 1), 45);
-    assert_eq!(rt; answer(&log, 2), 37);
-    assert_eq!(rt; answer(&log, 3), 37);
-    Ok(())
-}
-
-// Refused calls change nothing, a closed end forgets, and find gives place 10, which is (1) with the offset 1.
+// Refused calls change nothing, a closed end forgets, and find then gives place 10, which is (1) with the offset 1.
 #[test]
 fn out_of_turn(rt: HostRuntime) -> Result<(), Fail> {
     let heap = rt.alloc();
@@ -102,25 +65,17 @@ fn out_of_turn(rt: HostRuntime) -> Result<(), Fail> {
     add(&mut script, Side::Left, Order::Open(vec![in heap; 0, 5]?))?;
     add(&mut script, Side::Left, Order::Open(vec![in heap; 3]?))?;
     add(&mut script, Side::Left, Order::Tell(18))?;
-    add(&mut script, Side::Left, Order::Find(vec![in heap; 10]?))?;
     add(&mut script, Side::Left, Order::Close)?;
     add(&mut script, Side::Left, Order::Tell(64))?;
     let log = converse(&mut left, &mut right, script, heap)?;
     let mut i: usize = 0;
-    for wanted in [34, 33, 0, 31, 35, 0, 0, 34] {
+    for wanted in [34, 33, 0, 31, 35, 0, 34] {
         assert_eq!(rt; answer(&log, i), wanted);
         i = i.saturating_add(1);
     }
     assert!(rt; written(&log, 2, heap)?.as_slice() == [0, 0].as_slice());
-    match log.get(5) {
-        Some(event) => match &event.output {
-            Output::Gave(place) => {
-                assert!(rt; place.ideal().is_one());
-                assert_eq!(rt; place.offset(), 1);
-                Ok(())
-            }
-            Output::Wrote(_) => Err(Fail::new("bytes for a place")),
-        },
-        None => Err(Fail::new("no event")),
-    }
+    let place = left.find(&[10])?;
+    assert!(rt; place.ideal().is_one());
+    assert_eq!(rt; place.offset(), 1);
+    Ok(())
 }

@@ -7,7 +7,7 @@ use Rattle.field.specs.declared.refusal.Refusal.TheVariants.{InUse}
 use Rattle.rules.specs.Questions.{Answers, accepted, refused}
 use Rattle.rules.specs.Packets.{body, second}
 use Rattle.rules.specs.Settings.{setting_asks, poly_of}
-use Rattle.rules.specs.Ends.{ready, load, wrote}
+use Rattle.rules.specs.Ends.{ready, load}
 use Rattle.rules.proofs.Answering.{accepted_then}
 use Rattle.poly.specs.declared.poly.Poly.{Poly}
 use Rattle.packet.specs.Contents.{setting_asked}
@@ -35,13 +35,13 @@ abbrev pub with_mode : {F : Type 0} → End F → Mode → End F
 with_mode e m = record { field = e.field; mode = m; ideal = e.ideal; distance = e.distance; key = e.key }
 
 module _ {F : Type 0} {M : Meaning} (e : End F) (x : List ℕ) where
-  pub in_use : (f : Refusal) → f ≡ InUse → ¬ (InBlankOrReady e.mode) → Follows M e (load x) (refused (refusal_number f)) (wrote []) e
-  in_use f is_so away = refuses e (load x) (refusal_number f) (wrote [])
+  pub in_use : (f : Refusal) → f ≡ InUse → ¬ (InBlankOrReady e.mode) → Follows M e (load x) (refused (refusal_number f)) [] e
+  in_use f is_so away = refuses e (load x) (refusal_number f) []
       (λ L s is. (inr ((λ q. away ((loads_when L e s is).1 q)), ap (λ (d : Refusal). refused (refusal_number d)) is_so), refl))
 
-  pub load_refused : (f : Refusal) → InBlankOrReady e.mode → SettingRead M x (Err f) → Follows M e (load x) (refused (refusal_number f)) (wrote []) e
-  load_refused f ok read = refuses e (load x) (refusal_number f) (wrote []) (λ L s is. (inl ((loads_when L e s is).0 ok, read L), refl))
+  pub load_refused : (f : Refusal) → InBlankOrReady e.mode → SettingRead M x (Err f) → Follows M e (load x) (refused (refusal_number f)) [] e
+  load_refused f ok read = refuses e (load x) (refusal_number f) [] (λ L s is. (inl ((loads_when L e s is).0 ok, read L), refl))
 
-  pub loaded : (t : Setting) → InBlankOrReady e.mode → SettingRead M x (Ok t) → Follows M e (load x) accepted (wrote []) (with_mode e (Ready t))
+  pub loaded : (t : Setting) → InBlankOrReady e.mode → SettingRead M x (Ok t) → Follows M e (load x) accepted [] (with_mode e (Ready t))
   loaded t ok read L s is =
       (ready (read L).1.0, record { answer = inl ((loads_when L e s is).0 ok, (read L).0); after = ((read L).1.0, (read L).1.1, refl, refl) }, (t, refl, (read L).1.2))

@@ -8,7 +8,7 @@ use Rattle.algebra.proofs.Line.{place_legal, place_closest}
 use Rattle.rules.specs.Questions.{accepted, refused, Answers}
 use Rattle.rules.specs.Packets.{number}
 use Rattle.rules.specs.Settings.{Accepted, setting, Ideals, unit_ideal, Closest}
-use Rattle.rules.specs.Ends.{State, blank, ready, opened, keyed, «open», wrote, OpensTo, secret_asks}
+use Rattle.rules.specs.Ends.{State, blank, ready, opened, keyed, «open», OpensTo, secret_asks}
 use Rattle.rules.proofs.Offered.{closest_unique}
 use Rattle.packet.proofs.Buffers.{mid_over}
 use Rattle.ideal.specs.Values.{IdealIs}
@@ -75,12 +75,12 @@ module _ {F : Type 0} {M : Meaning} (e : End F) (n : List ℕ) (t : Setting) (p 
   secret_asked L (opened A a δ) is o = absurd ((opens_when L e (opened A a δ) is).0 ok)
   secret_asked L (keyed A a δ k) is o = absurd ((opens_when L e (keyed A a δ k) is).0 ok)
 
-  pub trivial_secret : one ≡ true → Follows M e («open» n) (refused 33) (wrote (replicate (length n) 0)) e
-  trivial_secret o = refuses e («open» n) 33 (wrote (replicate (length n) 0))
+  pub trivial_secret : one ≡ true → Follows M e («open» n) (refused 33) (replicate (length n) 0) e
+  trivial_secret o = refuses e («open» n) 33 (replicate (length n) 0)
       (λ L s is. (inl ((opens_when L e s is).0 ok, inl (size, secret_asked L s is o)), refl))
 
   pub open_made : one ≡ false → (after : End F) → after.mode ≡ Open t → after.ideal ≡ p.ideal → Left n p.offset after.distance
-      → Follows M e («open» n) accepted (wrote (replicate (length n) 0)) after
+      → Follows M e («open» n) accepted (replicate (length n) 0) after
   unfolding opens_to
   open_made o after mode_is ideal_is left L blank is = absurd ((opens_when L e blank is).0 ok)
   open_made o after mode_is ideal_is left L (ready A) is =

@@ -1,5 +1,5 @@
 -- Places handed in and given out.
-use Rattle.std.proofs.Common.{◌≡◌, ℕ, ◌+◌, ◌-◌, ◌<◌, ◌≤◌, List, [], ◌∷◌, Ok, Err, Result, sym, refl, ap, ◌∙◌, subst, inl, inr, ⊎_elim, arith}
+use Rattle.std.proofs.Common.{◌≡◌, ℕ, ◌+◌, ◌-◌, ◌<◌, ◌≤◌, List, [], ◌∷◌, ◌++◌, Ok, Err, Result, sym, refl, ap, ◌∙◌, subst, ap₂, inl, inr, ⊎_elim, arith}
 use Rattle.std.proofs.lemmas.Bool.{cases_lt}
 use Rattle.field.specs.Meaning.{Meaning, Lawful}
 use Rattle.field.specs.Refusals.{refusal_number}
@@ -8,16 +8,16 @@ use Rattle.field.specs.declared.refusal.Refusal.TheVariants.{CodeTooLarge}
 use Rattle.algebra.specs.Codes.{zero_low, R, K}
 use Rattle.algebra.specs.Places.{place}
 use Rattle.algebra.specs.Lines.{PlaceAt}
+use Rattle.algebra.proofs.Unique.{ideal_path}
 use Rattle.rules.specs.Questions.{◌if_not◌, Answer, Answers, accepted, refused}
 use Rattle.rules.specs.Packets.{All, number, words}
-use Rattle.rules.specs.Settings.{Accepted, setting, ideal_asks}
-use Rattle.rules.specs.Places.{codes_of, poly_from, Places, Shows, place_asks, FindGives, AddGives}
-use Rattle.rules.specs.Ends.{State, blank, ready, opened, keyed, add, wrote, Loaded, Under, add_asks}
+use Rattle.rules.specs.Settings.{Accepted, setting}
+use Rattle.rules.specs.Ends.{State, blank, ready, opened, keyed, ideal_asks}
+use Rattle.rules.specs.Places.{Given, codes_of, poly_from, Places, Means, Shows, Loaded, place_asks, sum_asks, add_asks, FindGives, AddGives}
 use Rattle.rules.proofs.Answering.{accepted≢refused, answers_unique, accepted_then, refused_then}
 use Rattle.rules.proofs.Written.{words_spell}
 use Rattle.rules.proofs.Spelled.{body_words, codes_read}
-use Rattle.rules.proofs.Determined.{means_one}
-use Rattle.rules.proofs.Agreed.{shows_means, sum_asked, under_back, add_asked}
+use Rattle.rules.proofs.Agreed.{agreement}
 use Rattle.poly.specs.Values.{at, size, Codes, value, Is}
 use Rattle.poly.specs.declared.poly.Poly.{Poly}
 use Rattle.poly.proofs.Bridge.{self, moved}
@@ -36,8 +36,8 @@ use Rattle.end.specs.declared.end.GivenPlace.{GivenPlace}
 use Rattle.end.specs.Modes.{InLoaded, Holds}
 use Rattle.end.specs.Values.{EndIs}
 use Rattle.end.specs.Results.{OneTo32}
-use Rattle.end.specs.Places.{given, shown, PlaceRead, Finds, FindsAt, Adds, AddsOnLine}
-use Rattle.end.proofs.Standing.{finds_when, setting_holds, refuses}
+use Rattle.end.specs.Places.{given, shown, Under, PlaceRead, Finds, Adds, AddsOnLine}
+use Rattle.end.proofs.Standing.{finds_when, setting_holds}
 
 -- the codes of a record, by their degree and in their order
 pub low_from : (q : ℕ) (p : Poly) → ((k : ℕ) → k < size p → at p k < q) → All (λ c. c < q) (codes_down p)
@@ -74,6 +74,13 @@ module _ {M : Meaning} (L : Lawful M) where
     codes_shown p.ideal.p π.ideal.P is.ideal_is.P_is,
     is.off_is,
   )
+
+  -- what shows a place is read as that place
+  pub same_place : (A : Accepted L) (g : Given) (π ρ : Places L A) → Means L A g π → Shows L A ρ g → π ≡ ρ
+  same_place A g π ρ means shows = ap₂ (place (K L) (setting L A))
+      (ideal_path (K L) (setting L A) π.ideal ρ.ideal (means.0 ∙ ap (poly_from L) shows.0 ∙ codes_read L ρ.ideal.Q)
+      (means.1 ∙ ap (poly_from L) shows.1 ∙ codes_read L ρ.ideal.P))
+      (means.2 ∙ shows.2)
 
 module _ (M : Meaning) (t : Setting) (g : GivenPlace) where
   pub q_too_large : ¬ (All (λ c. c < M.size) (codes_down g.q)) → PlaceRead M t g (Err CodeTooLarge)
@@ -116,92 +123,95 @@ module _ (M : Meaning) (t : Setting) (g : GivenPlace) where
         let (b, Q_is, P_is, standard, b_is) = h.1 in
         asked L A b.Q (refused (refusal_number f)) Q_is h.0 (there M L A b is b_is standard)
 
--- a setting stands under every state in which one is loaded
-stands : {M : Meaning} (L : Lawful M) (s : State L) → Loaded L s → (A : Accepted L) × Under L s (λ B. B ≡ A)
-stands L blank ok = absurd ok
-stands L (ready A) ok = (A, refl)
-stands L (opened A a δ) ok = (A, refl)
-stands L (keyed A a δ k) ok = (A, refl)
+-- A is the setting of the state s
+record Stands {M : Meaning} (L : Lawful M) (s : State L) (A : Accepted L) : Type 1 where
+  under : (P : Accepted L → Type 0) → P A → Under L s P
+  back : (P : Accepted L → Type 0) → Under L s P → P A
+  sums : (g h : Given) (a : Answer) → Answers (place_asks L A g ++ place_asks L A h) a → Answers (sum_asks L s g h) a
 
-under : {M : Meaning} (L : Lawful M) (s : State L) (A : Accepted L) (P : Accepted L → Type 0) → Under L s (λ B. B ≡ A) → P A → Under L s P
-under L blank A P e h = absurd e
-under L (ready B) A P e h = subst P (sym e) h
-under L (opened B a δ) A P e h = subst P (sym e) h
-under L (keyed B a δ k) A P e h = subst P (sym e) h
+module _ {M : Meaning} (L : Lawful M) where
+  stands : (s : State L) → Loaded L s → (A : Accepted L) × Stands L s A
+  stands blank ok = absurd ok
+  stands (ready A) ok = (A, record { under = λ P h. h; back = λ P h. h; sums = λ g h a p. p })
+  stands (opened A a δ) ok = (A, record { under = λ P h. h; back = λ P h. h; sums = λ g h a p. p })
+  stands (keyed A a δ k) ok = (A, record { under = λ P h. h; back = λ P h. h; sums = λ g h a p. p })
+
+  loaded_under : (s : State L) (P : Accepted L → Type 0) → Under L s P → Loaded L s
+  loaded_under blank P h = h
+  loaded_under (ready A) P h = tt
+  loaded_under (opened A a δ) P h = tt
+  loaded_under (keyed A a δ k) P h = tt
 
 module _ {F : Type 0} {M : Meaning} (e : End F) (t : Setting) (ok : InLoaded e.mode) (holds : Holds e.mode t) where
   -- the setting that the mode holds is that of the state
-  at_setting : (L : Lawful M) (s : State L) → EndIs L e s → (A : Accepted L) × Under L s (λ B. B ≡ A) × SettingIs L A t
+  at_setting : (L : Lawful M) (s : State L) → EndIs L e s → (A : Accepted L) × SettingIs L A t × Stands L s A
   at_setting L s is =
       let (A, st) = stands L s ((finds_when L e s is).0 ok) in
-      (A, st, under_back L A s (λ B. SettingIs L B t) st (setting_holds L e t s is holds))
+      (A, st.back (λ B. SettingIs L B t) (setting_holds L e t s is holds), st)
 
-  module _ (n : List ℕ) (p : Place) (found : Found M t n p) where
-    pub found_place : OneTo32 n → Finds M e n (Ok p)
-    found_place size L s is =
-        let (A, st, A_is) = at_setting L s is in
-        let h = found L A A_is in (
-          s,
-          record {
-            answer = inl ((finds_when L e s is).0 ok, inl (size, refl));
-            after = (shown p, under L s A (λ B. FindGives L B n (shown p)) st (h.0, h.1, record_shows L A p h.0 h.2), refl, refl);
-          },
-          is,
-        )
-
-    pub found_at : FindsAt M e n (Ok p)
-    found_at L s is = let (A, st, A_is) = at_setting L s is in under L s A (λ B. HoldsAt L B (number n) p) st (found L A A_is)
+  pub found_place : (n : List ℕ) (p : Place) → OneTo32 n → Found M t n p → Finds M e n (Ok p)
+  found_place n p size found L s is =
+      let (A, A_is, st) = at_setting L s is in
+      let h = found L A A_is in (
+        inl ((finds_when L e s is).0 ok, inl (size, refl)),
+        st.under (λ B. HoldsAt L B (number n) p × FindGives L B n (shown p)) (h, (h.0, h.1, record_shows L A p h.0 h.2)),
+      )
 
   module _ (g h : GivenPlace) where
     pub first_away : (f : Refusal) → PlaceRead M t g (Err f) → Adds M e g h (Err f)
-    first_away f read = refuses e (add (given g) (given h)) (refusal_number f) (wrote []) (λ L s is.
-        (let (A, st, A_is) = at_setting L s is in (
-          add_asked L A s (given g) (given h) (refused (refusal_number f)) st
+    first_away f read L s is =
+        let (A, A_is, st) = at_setting L s is in
+        inl (
+          (finds_when L e s is).0 ok,
+          st.sums (given g) (given h) (refused (refusal_number f))
               (refused_then (place_asks L A (given g)) (place_asks L A (given h)) (refusal_number f) (read L A A_is)),
-          refl,
-        )))
+        )
 
     module _ (p : Place) (read : PlaceRead M t g (Ok p)) where
       pub second_away : (f : Refusal) → PlaceRead M t h (Err f) → Adds M e g h (Err f)
-      second_away f read' = refuses e (add (given g) (given h)) (refusal_number f) (wrote []) (λ L s is.
-          (let (A, st, A_is) = at_setting L s is in (
-            add_asked L A s (given g) (given h) (refused (refusal_number f)) st
+      second_away f read' L s is =
+          let (A, A_is, st) = at_setting L s is in
+          inl (
+            (finds_when L e s is).0 ok,
+            st.sums (given g) (given h) (refused (refusal_number f))
                 (accepted_then (place_asks L A (given g)) (place_asks L A (given h)) (refused (refusal_number f)) (read L A A_is).0 (read' L A A_is)),
-            refl,
-          )))
+          )
 
       module _ (q : Place) (read' : PlaceRead M t h (Ok q)) (r : Place) where
         pub sum_made : Added M t p q r → Adds M e g h (Ok r)
         sum_made added L s is =
-            let (A, st, A_is) = at_setting L s is in
+            let (A, A_is, st) = at_setting L s is in
             let (π, means, lawful, p_is) = (read L A A_is).1 in
             let (ρ, means', lawful', q_is) = (read' L A A_is).1 in
             let (σ, adds, r_is) = added L A π ρ A_is p_is q_is lawful lawful' in (
-              s,
-              record {
-                answer = add_asked L A s (given g) (given h) accepted st
-                    (accepted_then (place_asks L A (given g)) (place_asks L A (given h)) accepted (read L A A_is).0 (read' L A A_is).0);
-                after = (
-                  shown r,
-                  under L s A (λ B. AddGives L B (given g) (given h) (shown r)) st (π, ρ, σ, means, means', adds, record_shows L A r σ r_is),
-                  refl,
-                  refl,
-                );
-              },
-              is,
+              inl (
+                (finds_when L e s is).0 ok,
+                st.sums (given g) (given h) accepted
+                    (accepted_then (place_asks L A (given g)) (place_asks L A (given h)) accepted (read L A A_is).0 (read' L A A_is).0),
+              ),
+              st.under (λ B. AddGives L B (given g) (given h) (shown r)) (π, ρ, σ, means, means', adds, record_shows L A r σ r_is),
             )
 
         pub sum_on_line : AddedAt M t p q r → AddsOnLine M e g h (Ok r)
-        sum_on_line added L s is A loaded i j π ρ at_i at_j shows shows' =
-            let A_is : SettingIs L A t = under_back L A s (λ B. SettingIs L B t) loaded (setting_holds L e t s is holds) in
+        sum_on_line added L s is A under i j π ρ at_i at_j shows shows' =
+            let (B, B-is, st) = at_setting L s is in
+            let A_is : SettingIs L A t = subst (λ (C : Accepted L). SettingIs L C t) (st.back (λ C. C ≡ A) under) B-is in
             let (π', means, lawful, p_is) = (read L A A_is).1 in
             let (ρ', means', lawful', q_is) = (read' L A A_is).1 in
             added L A i j A_is
-            (π', subst (PlaceAt (K L) (setting L A) i) (sym (means_one L A π' π (given g) means (shows_means L A π (given g) shows))) at_i, p_is)
-            (ρ', subst (PlaceAt (K L) (setting L A) j) (sym (means_one L A ρ' ρ (given h) means' (shows_means L A ρ (given h) shows'))) at_j, q_is)
+            (π', subst (PlaceAt (K L) (setting L A) i) (sym (same_place L A (given g) π' π means shows)) at_i, p_is)
+            (ρ', subst (PlaceAt (K L) (setting L A) j) (sym (same_place L A (given h) ρ' ρ means' shows')) at_j, q_is)
 
 -- places of the line are never refused
 pub line_accepted : {F : Type 0} {M : Meaning} (e : End F) (g h : GivenPlace) (f : Refusal) → Adds M e g h (Err f) → AddsOnLine M e g h (Err f)
-line_accepted {M = M} e g h f adds L s is A loaded i j π ρ at_i at_j shows shows' =
-    accepted≢refused accepted (refusal_number f) refl (answers_unique (add_asks L s (given g) (given h)) accepted (refused (refusal_number f))
-    (add_asked L A s (given g) (given h) accepted loaded (sum_asked L A i j π ρ (given g) (given h) at_i shows at_j shows')) (adds L s is).1.answer)
+line_accepted {M = M} e g h f adds L s is A under i j π ρ at_i at_j shows shows' =
+    let loaded = loaded_under L s (λ B. B ≡ A) under in
+    let (B, st) = stands L s loaded in
+    let same : B ≡ A = st.back (λ C. C ≡ A) under in
+    let asked = ((agreement M L A).c i j π ρ (given g) (given h) at_i at_j shows shows').asked in
+    let passed : Answers (add_asks L s (given g) (given h)) accepted = inl (
+      loaded,
+      st.sums (given g) (given h) accepted
+          (subst (λ (C : Accepted L). Answers (place_asks L C (given g) ++ place_asks L C (given h)) accepted) (sym same) asked),
+    ) in
+    accepted≢refused accepted (refusal_number f) refl (answers_unique (add_asks L s (given g) (given h)) accepted (refused (refusal_number f)) passed (adds L s is))

@@ -1,9 +1,10 @@
 -- The mode of an end and the state that it is in.
-use Rattle.std.proofs.Common.{◌≡◌, ℕ, sym, refl, ap, ◌∙◌, subst}
+use Rattle.std.proofs.Common.{◌≡◌, ℕ, List, sym, refl, ap, ◌∙◌, subst}
 use Rattle.field.specs.Meaning.{Meaning, Lawful}
 use Rattle.rules.specs.Questions.{Answers, refused}
 use Rattle.rules.specs.Settings.{Accepted, Ideals}
-use Rattle.rules.specs.Ends.{State, blank, ready, opened, keyed, Call, BlankOrReady, Ready as ReadyNow, Open as OpenNow, Keyed as KeyedNow, OpenOrKeyed, Loaded, Under, Output, wrote, questions, wiped, closed}
+use Rattle.rules.specs.Ends.{State, blank, ready, opened, keyed, Call, BlankOrReady, Ready as ReadyNow, Open as OpenNow, Keyed as KeyedNow, OpenOrKeyed, questions, wiped, closed}
+use Rattle.rules.specs.Places.{Loaded}
 use Rattle.ideal.specs.Values.{SettingIs}
 use Rattle.ideal.specs.declared.setting.Setting.{Setting}
 use Rattle.end.specs.declared.modes.Mode.{Mode}
@@ -12,6 +13,7 @@ use Rattle.end.specs.declared.end.End.{End}
 use Rattle.end.specs.Values.{EndIs}
 use Rattle.end.specs.Modes.{InBlankOrReady, InReady, InOpen, InKeyed, InOpenOrKeyed, InLoaded, Holds, closed_mode}
 use Rattle.end.specs.Results.{Follows, Closes}
+use Rattle.end.specs.Places.{Under}
 
 module _ {F : Type 0} {M : Meaning} (L : Lawful M) (e : End F) where
   -- what holds of a mode and a state of each kind holds of an end's mode and its state
@@ -67,8 +69,8 @@ by_open e ok P f L (opened A a δ) is = f L A a δ is
 by_open e ok P f L (keyed A a δ k) is = absurd ((takes_when L e (keyed A a δ k) is).0 ok)
 
 -- a call that is refused leaves the end in its state
-pub refuses : {F : Type 0} {M : Meaning} (e : End F) (c : Call) (n : ℕ) (w : Output)
-    → ((L : Lawful M) (s : State L) → EndIs L e s → Answers (questions L s c) (refused n) × (w ≡ wrote (wiped L c))) → Follows M e c (refused n) w e
+pub refuses : {F : Type 0} {M : Meaning} (e : End F) (c : Call) (n : ℕ) (w : List ℕ)
+    → ((L : Lawful M) (s : State L) → EndIs L e s → Answers (questions L s c) (refused n) × (w ≡ wiped L c)) → Follows M e c (refused n) w e
 refuses e c n w h L s is = (s, record { answer = (h L s is).0; after = ((h L s is).1, refl) }, is)
 
 -- an end with the mode that close leaves is the end that close leaves

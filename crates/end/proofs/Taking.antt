@@ -11,8 +11,8 @@ use Rattle.algebra.proofs.Unique.{ideal_path}
 use Rattle.algebra.proofs.Multiples.{times_lawful}
 use Rattle.rules.specs.Questions.{Question, ◌if_not◌, Answer, Answers, accepted, refused}
 use Rattle.rules.specs.Packets.{number, body, first, second}
-use Rattle.rules.specs.Settings.{Accepted, setting, Ideals, unit_ideal, poly_of, ideal_asks}
-use Rattle.rules.specs.Ends.{State, opened, keyed, take, Output, wrote, Reads, reader_asks, Other, KeyIs, OtherKey, questions, Does}
+use Rattle.rules.specs.Settings.{Accepted, setting, Ideals, unit_ideal, poly_of}
+use Rattle.rules.specs.Ends.{State, opened, keyed, take, ideal_asks, Reads, Other, KeyIs, OtherKey, questions, Does}
 use Rattle.rules.specs.Places.{Places}
 use Rattle.rules.proofs.Answering.{accepted≢refused, answers_hold, accepted_then, refused_then}
 use Rattle.rules.proofs.Determined.{key_unique}
@@ -30,7 +30,7 @@ use Rattle.end.specs.declared.modes.Mode.TheVariants.{Keyed}
 use Rattle.end.specs.declared.end.End.{End}
 use Rattle.end.specs.Modes.{InOpen, Holds}
 use Rattle.end.specs.Values.{EndIs}
-use Rattle.end.specs.Results.{Follows, OfferRead}
+use Rattle.end.specs.Results.{Follows, offer_questions, OfferRead}
 use Rattle.end.proofs.Standing.{setting_holds, by_open, refuses}
 
 module _ (M : Meaning) (t : Setting) (x : List ℕ) where
@@ -39,7 +39,7 @@ module _ (M : Meaning) (t : Setting) (x : List ℕ) where
 
   module _ (asked : Answers (offer_asked M.size x) accepted) where
     before : (L : Lawful M) (A : Accepted L) (a : Answer) → Answers (ideal_asks L A (poly_of L (body x first)) (poly_of L (body x second))) a
-        → Answers (reader_asks L A x) a
+        → Answers (offer_questions L A x) a
     before L A a h = accepted_then (offer_asked M.size x) (ideal_asks L A (poly_of L (body x first)) (poly_of L (body x second))) a asked h
 
     -- Q is longer than any reduced one
@@ -76,14 +76,14 @@ module _ (M : Meaning) (t : Setting) (x : List ℕ) where
           go : (r : Result Ideal Refusal)
               → MatchResult r (λ a. Answers (ideal_asks L A X X) accepted × ((b : Ideals L A) × (b.Q ≡ X) × (b.P ≡ X) × Standard (K L) (setting L A) b × IdealIs L A a b))
               (λ e. Answers (ideal_asks L A X X) (refused (refusal_number e)))
-              → MatchResult r (λ a. Answers (reader_asks L A x) accepted × ((b : Ideals L A) × Reads L A x b × LawfulAt (K L) (setting L A) b 0 × IdealIs L A a b))
-              (λ e. Answers (reader_asks L A x) (refused (refusal_number e)))
+              → MatchResult r (λ a. Answers (offer_questions L A x) accepted × ((b : Ideals L A) × Reads L A x b × LawfulAt (K L) (setting L A) b 0 × IdealIs L A a b))
+              (λ e. Answers (offer_questions L A x) (refused (refusal_number e)))
           go (Ok a) h = (let l = (answers_hold (ideal_asks L A X X) h.0).1.1.0 in absurd (omega arith))
           go (Err f) h = before L A (refused (refusal_number f)) (same (refusal_number f) h)
 
 -- the offer x is read as the ideal that the record i holds
 abbrev ReadAs : {M : Meaning} (L : Lawful M) (A : Accepted L) → List ℕ → Ideal → Type 0
-ReadAs L A x i = Answers (reader_asks L A x) accepted × ((b : Ideals L A) × Reads L A x b × LawfulAt (K L) (setting L A) b 0 × IdealIs L A i b)
+ReadAs L A x i = Answers (offer_questions L A x) accepted × ((b : Ideals L A) × Reads L A x b × LawfulAt (K L) (setting L A) b 0 × IdealIs L A i b)
 
 module _ {M : Meaning} (L : Lawful M) (A : Accepted L) (x : List ℕ) (i : Ideal) (h : ReadAs L A x i) where
   module _ (one : Bool) (asked : IsOne i one) where
@@ -121,22 +121,22 @@ rest L A x δ = (Other L A x if_not 44) ∷ (OtherKey L A δ x if_not 45) ∷ []
 module _ {F : Type 0} {M : Meaning} (e : End F) (x : List ℕ) (t : Setting) (ok : InOpen e.mode) (holds : Holds e.mode t) where
   -- a refusal is one if it is so for every open state
   refuses_open : (n : ℕ) → ((L : Lawful M) (A : Accepted L) (a : Ideals L A) (δ : ℕ) → SettingIs L A t → number e.distance ≡ δ
-      → Answers (reader_asks L A x ++ rest L A x δ) (refused n)) → Follows M e (take x) (refused n) (wrote []) e
-  refuses_open n h = refuses e (take x) n (wrote [])
-      (by_open e ok (λ L s. Answers (questions L s (take x)) (refused n) × (◌≡◌ {A = Output} (wrote []) (wrote [])))
+      → Answers (offer_questions L A x ++ rest L A x δ) (refused n)) → Follows M e (take x) (refused n) [] e
+  refuses_open n h = refuses e (take x) n []
+      (by_open e ok (λ L s. Answers (questions L s (take x)) (refused n) × (◌≡◌ {A = List ℕ} [] []))
       (λ L A a δ is. (inl (tt, h L A a δ (setting_holds L e t (opened A a δ) is holds) is.4), refl)))
 
-  pub offer_away : (f : Refusal) → OfferRead M t x (Err f) → Follows M e (take x) (refused (refusal_number f)) (wrote []) e
+  pub offer_away : (f : Refusal) → OfferRead M t x (Err f) → Follows M e (take x) (refused (refusal_number f)) [] e
   offer_away f read = refuses_open (refusal_number f)
-      (λ L A a δ A_is d. refused_then (reader_asks L A x) (rest L A x δ) (refusal_number f) (read L A A_is))
+      (λ L A a δ A_is d. refused_then (offer_questions L A x) (rest L A x δ) (refusal_number f) (read L A A_is))
 
   module _ (i : Ideal) (read : OfferRead M t x (Ok i)) (one : Bool) (asked : IsOne i one) where
-    pub trivial_offer : one ≡ true → Follows M e (take x) (refused 44) (wrote []) e
+    pub trivial_offer : one ≡ true → Follows M e (take x) (refused 44) [] e
     trivial_offer o = refuses_open 44 (λ L A a δ A_is d.
-        accepted_then (reader_asks L A x) (rest L A x δ) (refused 44) (read L A A_is).0 (inr (not_other L A x i (read L A A_is) one asked o, refl)))
+        accepted_then (offer_questions L A x) (rest L A x δ) (refused 44) (read L A A_is).0 (inr (not_other L A x i (read L A A_is) one asked o, refl)))
 
     -- a reduced ideal has a place at the offset 0
-    pub place_there : (f : Refusal) → PlaceMade t i 0 (Err f) → Follows M e (take x) (refused (refusal_number f)) (wrote []) e
+    pub place_there : (f : Refusal) → PlaceMade t i 0 (Err f) → Follows M e (take x) (refused (refusal_number f)) [] e
     place_there f made = refuses_open (refusal_number f) (λ L A a δ A_is d.
         (let h = (read L A A_is).1 in
         elim (made M L A h.0 A_is h.3 h.2.standard) [
@@ -152,16 +152,16 @@ module _ {F : Type 0} {M : Meaning} (e : End F) (x : List ℕ) (t : Setting) (ok
           let there = made M L A h.0 A_is h.3 h.2.standard in
           subst (λ (n : ℕ). HoldsTimes L A (here L A x i (read L A A_is)) n m) d (repeated L A (here L A x i (read L A A_is)) A_is there.2 there.1)
 
-      pub trivial_key : one' ≡ true → Follows M e (take x) (refused 45) (wrote []) e
+      pub trivial_key : one' ≡ true → Follows M e (take x) (refused 45) [] e
       trivial_key o' = refuses_open 45 (λ L A a δ A_is d.
           (let h = read L A A_is in
-          accepted_then (reader_asks L A x) (rest L A x δ) (refused 45) h.0
+          accepted_then (offer_questions L A x) (rest L A x δ) (refused 45) h.0
           (inl (other L A x i h one asked o, inr (not_other_key L A x i h δ m (times L A A_is δ d) one' asked' o', refl)))))
 
       pub taken : one' ≡ false → (after : End F) → after.mode ≡ Keyed t → after.ideal ≡ e.ideal → after.distance ≡ e.distance → after.key ≡ m.ideal
-          → Follows M e (take x) accepted (wrote []) after
+          → Follows M e (take x) accepted [] after
       taken o' after mode_is ideal_is distance_is key_is' = by_open e ok
-          (λ L s. (s' : State L) × Does L s (take x) accepted (wrote []) s' × EndIs L after s')
+          (λ L s. (s' : State L) × Does L s (take x) accepted [] s' × EndIs L after s')
           (λ L A a δ is.
           (let A_is = setting_holds L e t (opened A a δ) is holds in
           let h = read L A A_is in
@@ -170,7 +170,7 @@ module _ {F : Type 0} {M : Meaning} (e : End F) (x : List ℕ) (t : Setting) (ok
             record {
               answer = inl (
                 tt,
-                accepted_then (reader_asks L A x) (rest L A x δ) accepted h.0
+                accepted_then (offer_questions L A x) (rest L A x δ) accepted h.0
                     (inl (other L A x i h one asked o, inl (other_key L A x i h δ m τ one' asked' o', refl))),
               );
               after = (refl, (τ.0.ideal, key_is L A x i h δ m τ one' asked', refl));

@@ -1,10 +1,9 @@
 -- Offers written into a buffer.
-use Rattle.std.proofs.Common.{ℕ, ◌≤◌, List, [], ◌∷◌, length, Ok, Err, Result, refl, ap, inl, arith}
+use Rattle.std.proofs.Common.{ℕ, List, length, Ok, Err, Result, refl, inl}
 use Rattle.field.specs.Meaning.{Meaning, Lawful}
 use Rattle.field.specs.declared.refusal.Refusal.{Refusal}
-use Rattle.rules.specs.Questions.{◌if_not◌, answer_of}
-use Rattle.rules.specs.Ends.{State, blank, ready, opened, keyed, tell, key, wrote, offered, offered_key, After}
-use Rattle.rules.proofs.Answering.{answers_hold}
+use Rattle.rules.specs.Questions.{answer_of}
+use Rattle.rules.specs.Ends.{State, blank, ready, opened, keyed, tell, key, offered, offered_key, After}
 use Rattle.packet.specs.Writing.{Written, WritesOffer}
 use Rattle.end.specs.declared.end.End.{End}
 use Rattle.end.specs.Modes.{InOpenOrKeyed, InKeyed}
@@ -13,19 +12,19 @@ use Rattle.end.specs.Results.{written_to, Kept, Tells, Keys}
 use Rattle.end.proofs.Standing.{tells_when, keys_when}
 
 pub kept : {x before after : List ℕ} (r : Result ℕ Refusal) → Written x before after r → Kept before after r
-kept {x} {before} (Ok n) w = (omega (arith, w.wrote.0, (answers_hold ((length x ≤ length before if_not 35) ∷ []) w.answers).0), w.wrote.2)
+kept (Ok n) w = w.wrote.2
 kept (Err e) w = w.kept
 
 module _ {F : Type 0} {M : Meaning} (e : End F) (before after : List ℕ) (r : Result ℕ Refusal) where
   module _ (L : Lawful M) where
     after_tell : (s : State L) (r : Result ℕ Refusal) → Written (offered L s) before after r
-        → After L s (tell (length before)) (answer_of r) (wrote (written_to after r)) s
-    after_tell s (Ok n) w = (ap wrote w.wrote.1, refl)
+        → After L s (tell (length before)) (answer_of r) (written_to after r) s
+    after_tell s (Ok n) w = (w.wrote.1, refl)
     after_tell s (Err f) w = (refl, refl)
 
     after_key : (s : State L) (r : Result ℕ Refusal) → Written (offered_key L s) before after r
-        → After L s (key (length before)) (answer_of r) (wrote (written_to after r)) s
-    after_key s (Ok n) w = (ap wrote w.wrote.1, refl)
+        → After L s (key (length before)) (answer_of r) (written_to after r) s
+    after_key s (Ok n) w = (w.wrote.1, refl)
     after_key s (Err f) w = (refl, refl)
 
     tell_writes : (s : State L) → EndIs L e s → InOpenOrKeyed e.mode → WritesOffer e.ideal.q e.ideal.p before after r

@@ -1,16 +1,16 @@
 -- What find and add give: places by the rules, as records and as the codes that they show.
-use Rattle.std.specs.Prelude.{◌≡◌, ℕ, ◌+◌, List, [], IfOk, Ok, Err, Result, MatchResult}
+use Rattle.std.specs.Prelude.{◌≡◌, ℕ, ◌+◌, List, Result, MatchResult}
 use Rattle.field.specs.Meaning.{Meaning, Lawful}
 use Rattle.field.specs.Refusals.{refusal_number}
 use Rattle.field.specs.declared.refusal.Refusal.{Refusal}
 use Rattle.algebra.specs.Codes.{K}
 use Rattle.algebra.specs.Places.{LawfulPlace}
 use Rattle.algebra.specs.Lines.{PlaceAt}
-use Rattle.rules.specs.Questions.{Answers, accepted, refused, answer_of}
+use Rattle.rules.specs.Questions.{Answers, accepted, refused}
 use Rattle.rules.specs.Packets.{number}
 use Rattle.rules.specs.Settings.{Accepted, setting}
-use Rattle.rules.specs.Places.{Given, Places, Means, Shows, place_asks}
-use Rattle.rules.specs.Ends.{State, find, add, Output, wrote, gave, Under}
+use Rattle.rules.specs.Ends.{State, blank, ready, opened, keyed}
+use Rattle.rules.specs.Places.{Given, Places, Means, Shows, place_asks, find_asks, FindGives, add_asks, AddGives}
 use Rattle.packet.specs.Polynomials.{codes_down}
 use Rattle.ideal.specs.Values.{SettingIs}
 use Rattle.ideal.specs.declared.setting.Setting.{Setting}
@@ -19,7 +19,6 @@ use Rattle.place.specs.declared.place.Place.{Place}
 use Rattle.end.specs.declared.end.End.{End}
 use Rattle.end.specs.declared.end.GivenPlace.{GivenPlace}
 use Rattle.end.specs.Values.{EndIs}
-use Rattle.end.specs.Results.{Follows}
 
 -- a place that is handed in, and one that is given out: the codes of Q and P from the highest degree down, and the offset
 abbrev pub given : GivenPlace → Given
@@ -28,10 +27,12 @@ given g = record { Q = codes_down g.q; P = codes_down g.p; off = g.offset }
 abbrev pub shown : Place → Given
 shown p = record { Q = codes_down p.ideal.q; P = codes_down p.ideal.p; off = p.offset }
 
--- what find and add hand out: the place, and nothing if they are refused
-abbrev pub given_out : Result Place Refusal → Output
-given_out (Ok p) = gave (shown p)
-given_out (Err f) = wrote []
+-- it is so of the setting that is loaded
+abbrev pub Under : {M : Meaning} (L : Lawful M) → State L → (Accepted L → Type 0) → Type 0
+Under L blank P = ⊥
+Under L (ready A) P = P A
+Under L (opened A a δ) P = P A
+Under L (keyed A a δ k) P = P A
 
 -- the lawful place that g is read as, or the number of the first of its questions with the answer no
 abbrev pub PlaceRead : Meaning → Setting → GivenPlace → Result Place Refusal → Type 0
@@ -40,16 +41,17 @@ PlaceRead M t g r = (L : Lawful M) (A : Accepted L) → SettingIs L A t → Matc
     × ((π : Places L A) × Means L A (given g) π × LawfulPlace (K L) (setting L A) π × PlaceIs L A p π))
     (λ e. Answers (place_asks L A (given g)) (refused (refusal_number e)))
 
--- find and add, each as a step of the rules; they leave the end as it is
+-- find answers as the rules say, and gives place n
 abbrev pub Finds : {F : Type 0} → Meaning → End F → List ℕ → Result Place Refusal → Type 0
-Finds M e n r = Follows M e (find n) (answer_of r) (given_out r) e
+Finds M e n r = (L : Lawful M) (s : State L) → EndIs L e s → MatchResult r
+    (λ p. Answers (find_asks L s n) accepted × Under L s (λ A. HoldsAt L A (number n) p × FindGives L A n (shown p)))
+    (λ f. Answers (find_asks L s n) (refused (refusal_number f)))
 
+-- add answers as the rules say, and gives the sum
 abbrev pub Adds : {F : Type 0} → Meaning → End F → GivenPlace → GivenPlace → Result Place Refusal → Type 0
-Adds M e g h r = Follows M e (add (given g) (given h)) (answer_of r) (given_out r) e
-
--- the record that find gives holds place n
-abbrev pub FindsAt : {F : Type 0} → Meaning → End F → List ℕ → Result Place Refusal → Type 0
-FindsAt M e n r = (L : Lawful M) (s : State L) → EndIs L e s → IfOk r (λ p. Under L s (λ A. HoldsAt L A (number n) p))
+Adds M e g h r = (L : Lawful M) (s : State L) → EndIs L e s → MatchResult r
+    (λ p. Answers (add_asks L s (given g) (given h)) accepted × Under L s (λ A. AddGives L A (given g) (given h) (shown p)))
+    (λ f. Answers (add_asks L s (given g) (given h)) (refused (refusal_number f)))
 
 -- adding place i and place j gives place i + j, and is never refused
 abbrev pub AddsOnLine : {F : Type 0} → Meaning → End F → GivenPlace → GivenPlace → Result Place Refusal → Type 0

@@ -9,7 +9,8 @@ use Rattle.ring.proofs.Euclid.{common_len, remainder_unique}
 use Rattle.algebra.specs.Codes.{code, one_low, R, K}
 use Rattle.algebra.specs.Ideals.{Standard}
 use Rattle.rules.specs.Questions.{Answers, accepted}
-use Rattle.rules.specs.Settings.{EvenDegree, Monic, Coprime, Accepted, setting, Ideals, ideal_asks}
+use Rattle.rules.specs.Settings.{EvenDegree, Monic, Coprime, Accepted, setting, Ideals}
+use Rattle.rules.specs.Ends.{ideal_asks}
 use Rattle.rules.proofs.Answering.{hold_answers}
 use Rattle.poly.specs.Values.{at, size, Is}
 use Rattle.poly.specs.Rules.{Combined, Divided}

@@ -10,7 +10,8 @@ use Rattle.algebra.specs.Steps.{StepTo}
 use Rattle.algebra.specs.Products.{Product}
 use Rattle.algebra.specs.Places.{Reduces}
 use Rattle.rules.specs.Questions.{Answers, accepted, refused}
-use Rattle.rules.specs.Settings.{Accepted, setting, setting_asks, Ideals, unit_ideal, ideal_asks}
+use Rattle.rules.specs.Settings.{Accepted, setting, setting_asks, Ideals, unit_ideal}
+use Rattle.rules.specs.Ends.{ideal_asks}
 use Rattle.poly.specs.Values.{Is}
 use Rattle.poly.specs.declared.poly.Poly.{Poly}
 use Rattle.ideal.specs.Values.{SettingIs, IdealIs}

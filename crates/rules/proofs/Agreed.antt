@@ -1,40 +1,40 @@
 -- Agreement.
-use Rattle.std.proofs.Common.{◌≡◌, ℕ, suc, ◌+◌, ◌*◌, ◌<◌, ◌≤◌, ◌≢◌, List, ◌++◌, sym, ap, ◌∙◌, subst, subst₂, inl, inr, mul_comm, arith}
+use Rattle.std.proofs.Common.{◌≡◌, ℕ, suc, ◌+◌, ◌*◌, ◌<◌, ◌≤◌, ◌≢◌, List, ◌++◌, sym, refl, ap, ◌∙◌, subst, ap₂, subst₂, inl, inr, mul_comm, arith}
 use native.Mathlib.Decide.{dec_le}
 use Rattle.field.specs.Meaning.{Meaning, Lawful}
-use Rattle.algebra.proofs.Line.{place_legal, place_adds}
-use Rattle.rules.specs.Questions.{Answer, accepted, refused, Answers, Hold}
+use Rattle.algebra.proofs.Adds.{adds_exists}
+use Rattle.algebra.proofs.Group.{sum_adds}
+use Rattle.algebra.proofs.Unique.{ideal_path}
+use Rattle.algebra.proofs.Line.{place_legal, place_sum}
+use Rattle.rules.specs.Questions.{Answer, accepted, refused, Hold}
 use Rattle.rules.specs.Packets.{All, number}
-use Rattle.rules.specs.Settings.{setting, Accepted, Ideals, unit_ideal, Closest, ideal_asks, offer}
-use Rattle.rules.specs.Ends.{State, blank, ready, opened, keyed, tell, take, key, find, add, wrote, Open, Under, Passes, add_asks, questions, Does}
-use Rattle.rules.specs.Places.{Given, Places, Shows, Means, place_asks, FindGives, Add, AddGives, poly_from}
-use Rattle.rules.specs.Runs.{Side, left, right, Run, Told, Takes, Keys, OffersOf, Meets, SumsOf, FindsOf, Agreement}
+use Rattle.rules.specs.Settings.{setting, Accepted, Ideals, unit_ideal, Closest, offer}
+use Rattle.rules.specs.Ends.{State, opened, keyed, tell, take, key, Open, ideal_asks, questions, Does}
+use Rattle.rules.specs.Places.{Given, Places, Shows, Means, place_asks, Add, codes_of, poly_from}
+use Rattle.rules.specs.Runs.{Side, left, right, Run, Told, Takes, Keys, OffersOf, Meets, SumsOf, Agreement}
 use Rattle.rules.proofs.Answering.{answers_unique, answers_hold, hold_append, hold_answers}
 use Rattle.rules.proofs.Spelled.{codes_low, codes_read}
-use Rattle.rules.proofs.Offered.{closest_unique, closest_legal, offer_passes, take_accepts, take_refuses, key_is, ideal_holds}
-use Rattle.rules.proofs.Determined.{means_one}
+use Rattle.rules.proofs.Offered.{closest_unique, closest_legal, take_accepts, take_refuses, key_is, ideal_holds}
 use Rattle.rules.proofs.Openings.{Inside, calls_does, keyed_until, opening_begins, opening_keeps}
+use Rattle.algebra.specs.Places.{place}
 use Rattle.algebra.specs.Lines.{PlaceAt}
 use Rattle.algebra.specs.Codes.{K}
-
-wrote_one : {x y : List ℕ} → wrote x ≡ wrote y → x ≡ y
-wrote_one e = cc e
 
 module _ {M : Meaning} (L : Lawful M) (A : Accepted L) (run : Run L A) (σ : Side) where
   -- an opening tells its ideal's offer
   told_is : (a : Ideals L A) (δ b : ℕ) (x : List ℕ) → run.end σ (suc b) ≡ opened A a δ → Told L A run σ b x → x ≡ offer L A a
   told_is a δ b x e t = go (opening_keeps L A run σ a δ b t.when t.within t.tells.happens e)
     where
-      d : Does L (run.end σ t.when) (tell t.room) accepted (run.event t.when).output (run.end σ (suc t.when))
+      d : Does L (run.end σ t.when) (tell t.room) accepted (run.event t.when).written (run.end σ (suc t.when))
       d = calls_does L A run σ t.when (tell t.room) accepted t.tells
 
       at : (s : State L) → run.end σ t.when ≡ s
-          → Does L s (tell t.room) accepted (run.event t.when).output (run.end σ (suc t.when))
-      at s p = subst (λ z. Does L z (tell t.room) accepted (run.event t.when).output (run.end σ (suc t.when))) p d
+          → Does L s (tell t.room) accepted (run.event t.when).written (run.end σ (suc t.when))
+      at s p = subst (λ z. Does L z (tell t.room) accepted (run.event t.when).written (run.end σ (suc t.when))) p d
 
       go : Inside L A a δ (run.end σ t.when) → x ≡ offer L A a
-      go (inl p) = wrote_one (sym t.says ∙ (at (opened A a δ) p).after.0)
-      go (inr (k, p)) = wrote_one (sym t.says ∙ (at (keyed A a δ k) p).after.0)
+      go (inl p) = sym t.wrote ∙ (at (opened A a δ) p).after.0
+      go (inr (k, p)) = sym t.wrote ∙ (at (keyed A a δ k) p).after.0
 
   -- a take, made while the end is open, of the offer of an ideal c at distance ε
   module _ (a : Ideals L A) (δ b i : ℕ) (x : List ℕ) (ans : Answer) (e : run.end σ (suc b) ≡ opened A a δ) (t : Takes L A run σ b i x ans)
@@ -47,9 +47,9 @@ module _ {M : Meaning} (L : Lawful M) (A : Accepted L) (run : Run L A) (σ : Sid
     taken_at : run.end σ i ≡ opened A a δ
     taken_at = still_open (opening_keeps L A run σ a δ b i t.within t.takes.happens e)
 
-    does : Does L (opened A a δ) (take (offer L A c)) ans (run.event i).output (run.end σ (suc i))
-    does = subst (λ (y : List ℕ). Does L (opened A a δ) (take y) ans (run.event i).output (run.end σ (suc i))) is
-        (subst (λ s. Does L s (take x) ans (run.event i).output (run.end σ (suc i))) taken_at
+    does : Does L (opened A a δ) (take (offer L A c)) ans (run.event i).written (run.end σ (suc i))
+    does = subst (λ (y : List ℕ). Does L (opened A a δ) (take y) ans (run.event i).written (run.end σ (suc i))) is
+        (subst (λ s. Does L s (take x) ans (run.event i).written (run.end σ (suc i))) taken_at
         (calls_does L A run σ i (take x) ans t.takes))
 
     take_accepted : k ≢ unit_ideal L A → ans ≡ accepted
@@ -63,18 +63,18 @@ module _ {M : Meaning} (L : Lawful M) (A : Accepted L) (run : Run L A) (σ : Sid
     -- the end is then keyed with k
     then_keyed : ans ≡ accepted → run.end σ (suc i) ≡ keyed A a δ k
     then_keyed h =
-        let d = subst (λ y. Does L (opened A a δ) (take (offer L A c)) y (run.event i).output (run.end σ (suc i))) h does in
+        let d = subst (λ y. Does L (opened A a δ) (take (offer L A c)) y (run.event i).written (run.end σ (suc i))) h does in
         let (z, kz, p) = d.after.1 in
         p ∙ ap (λ (y : Ideals L A). keyed A a δ y) (key_is L A c (closest_legal L A n ε c cl) n δ ε cl k far ck z kz)
 
     keys_are : ans ≡ accepted → Keys L A run σ b k
     keys_are h j room w call = go (opening_keeps L A run σ a δ b j w call.happens e) (dec_le j i)
       where
-        at : (s : State L) → run.end σ j ≡ s → Does L s (key room) accepted (run.event j).output (run.end σ (suc j))
-        at s p = subst (λ z. Does L z (key room) accepted (run.event j).output (run.end σ (suc j))) p
+        at : (s : State L) → run.end σ j ≡ s → Does L s (key room) accepted (run.event j).written (run.end σ (suc j))
+        at s p = subst (λ z. Does L z (key room) accepted (run.event j).written (run.end σ (suc j))) p
             (calls_does L A run σ j (key room) accepted call)
 
-        go : Inside L A a δ (run.end σ j) → Dec (j ≤ i) → (run.event j).output ≡ wrote (offer L A k)
+        go : Inside L A a δ (run.end σ j) → Dec (j ≤ i) → (run.event j).written ≡ offer L A k
         go (inl p) g = absurd (answers_hold (questions L (opened A a δ) (key room)) (at (opened A a δ) p).answer).0
         go (inr (y, p)) (yes g) =
             let l = t.takes.happens in
@@ -85,12 +85,13 @@ module _ {M : Meaning} (L : Lawful M) (A : Accepted L) (run : Run L A) (σ : Sid
             let q = keyed_until L A run σ a k δ (suc i) j (omega arith) (omega arith) (λ u v z. w.lasts u (let m = t.within.later in omega arith) (omega arith)) (then_keyed h) in
             (at (keyed A a δ k) q).after.0
 
+-- (a)
 offers_of : {M : Meaning} (L : Lawful M) (A : Accepted L) (run : Run L A) → OffersOf L A run
 offers_of L A run σ b secret x o t =
     let (a, δ, cl, n, e) = opening_begins L A run σ b secret o in
-    let is = told_is L A run σ a δ b x e t in
-    (a, δ, cl, is, subst (λ (y : List ℕ). Passes L A y a) (sym is) (offer_passes L A a (closest_legal L A (number secret) δ a cl) n))
+    (a, δ, cl, told_is L A run σ a δ b x e t)
 
+-- (b)
 meets : {M : Meaning} (L : Lawful M) (A : Accepted L) (run : Run L A) → Meets L A run
 meets L A run b c δ ε e k far ck =
     let (a, δ₁, ca, na, ea) = opening_begins L A run left b e.secret e.opening in
@@ -115,11 +116,15 @@ meets L A run b c δ ε e k far ck =
       )),
     )
 
--- places that are handed in and given out
+-- (c)
 module _ {M : Meaning} (L : Lawful M) (A : Accepted L) where
   -- what shows the place p is read as p
-  pub shows_means : (p : Places L A) (g : Given) → Shows L A p g → Means L A g p
+  shows_means : (p : Places L A) (g : Given) → Shows L A p g → Means L A g p
   shows_means p g (e, f, o) = (sym (ap (poly_from L) e ∙ codes_read L p.ideal.Q), sym (ap (poly_from L) f ∙ codes_read L p.ideal.P), sym o)
+
+  means_one : (p q : Places L A) (g : Given) → Means L A g p → Means L A g q → p ≡ q
+  means_one p q g (e, f, o) (e', f', o') =
+      ap₂ (place (K L) (setting L A)) (ideal_path (K L) (setting L A) p.ideal q.ideal (e ∙ sym e') (f ∙ sym f')) (o ∙ sym o')
 
   -- and has all of a place's questions answered with yes
   place_asked : (t : ℕ) (p : Places L A) (g : Given) → PlaceAt (K L) (setting L A) t p → Shows L A p g → Hold (place_asks L A g)
@@ -133,48 +138,21 @@ module _ {M : Meaning} (L : Lawful M) (A : Accepted L) where
         (i.0, (i.1.0, (i.1.1.0, (i.1.1.1.0, (n, tt))))),
       )
 
-  module _ (s t : ℕ) (p q : Places L A) (g h : Given) (π : PlaceAt (K L) (setting L A) s p) (γ : Shows L A p g)
-      (ρ : PlaceAt (K L) (setting L A) t q) (η : Shows L A q h) where
-    -- add refuses neither place s nor place t
-    pub sum_asked : Answers (place_asks L A g ++ place_asks L A h) accepted
-    sum_asked = hold_answers (place_asks L A g ++ place_asks L A h)
-        (hold_append (place_asks L A g) (place_asks L A h) (place_asked s p g π γ) (place_asked t q h ρ η))
-
-    -- and gives nothing but place s + t
-    sum_gives : (z : Given) → AddGives L A g h z → (x : Places L A) × PlaceAt (K L) (setting L A) (s + t) x × Shows L A x z
-    sum_gives z (p', q', x, μ, ν, β, ζ) =
-        let α = subst₂ (λ (a b : Places L A). Add L A a b x) (means_one L A p' p g μ (shows_means p g γ)) (means_one L A q' q h ν (shows_means q h η)) β in
-        (x, place_adds (K L) (setting L A) p q x π ρ α, ζ)
-
-  -- what is so of the setting that is loaded is so of A, where A is loaded
-  pub under_back : (s : State L) (P : Accepted L → Type 0) → Under L s (λ B. B ≡ A) → Under L s P → P A
-  under_back blank P e h = absurd h
-  under_back (ready B) P e h = subst P e h
-  under_back (opened B a δ) P e h = subst P e h
-  under_back (keyed B a δ k) P e h = subst P e h
-
-  -- the questions of add, where A is loaded
-  pub add_asked : (s : State L) (g h : Given) (ans : Answer) → Under L s (λ B. B ≡ A) → Answers (place_asks L A g ++ place_asks L A h) ans
-      → Answers (add_asks L s g h) ans
-  add_asked blank g h ans e k = absurd e
-  add_asked (ready B) g h ans e k = inl (tt, subst (λ (C : Accepted L). Answers (place_asks L C g ++ place_asks L C h) ans) (sym e) k)
-  add_asked (opened B a δ) g h ans e k = inl (tt, subst (λ (C : Accepted L). Answers (place_asks L C g ++ place_asks L C h) ans) (sym e) k)
-  add_asked (keyed B a δ c) g h ans e k = inl (tt, subst (λ (C : Accepted L). Answers (place_asks L C g ++ place_asks L C h) ans) (sym e) k)
-
-  sums_of : (run : Run L A) → SumsOf L A run
-  sums_of run σ i s t g h ans p q call stands π γ ρ η =
-      let d = calls_does L A run σ i (add g h) ans call in
-      let e : ans ≡ accepted = answers_unique (add_asks L (run.end σ i) g h) ans accepted d.answer
-      (add_asked (run.end σ i) g h accepted stands (sum_asked s t p q g h π γ ρ η)) in
-      let (z, u, out, same) = (subst (λ (a : Answer). Does L (run.end σ i) (add g h) a (run.event i).output (run.end σ (suc i))) e d).after in
-      let (x, at, ζ) = sum_gives s t p q g h π γ ρ η z (under_back (run.end σ i) (λ B. AddGives L B g h z) stands u) in
-      (e, (z, x, out, at, ζ))
-
-  finds_of : (run : Run L A) → FindsOf L A run
-  finds_of run σ i n call stands =
-      let (z, u, out, same) = (calls_does L A run σ i (find n) accepted call).after in
-      let (p, π, ζ) = under_back (run.end σ i) (λ B. FindGives L B n z) stands u in
-      (z, p, out, π, ζ)
+  sums_of : SumsOf L A
+  sums_of s t p q g h π ρ γ η =
+      let (c, f, α) = adds_exists (K L) (setting L A) p.ideal p.off q.ideal q.off in
+      record {
+        asked = hold_answers (place_asks L A g ++ place_asks L A h)
+            (hold_append (place_asks L A g) (place_asks L A h) (place_asked s p g π γ) (place_asked t q h ρ η));
+        some = (
+          record { Q = codes_of L c.Q; P = codes_of L c.P; off = f },
+          (p, q, place (K L) (setting L A) c f, shows_means p g γ, shows_means q h η, α, (refl, refl, refl)),
+        );
+        only = λ z (p', q', x, μ, ν, β, ζ).
+            (let β' = subst₂ (λ (a b : Places L A). Add L A a b x) (means_one p' p g μ (shows_means p g γ)) (means_one q' q h ν (shows_means q h η)) β in
+            let (l, e) = sum_adds (K L) (setting L A) p q x β' in
+            (x, place_sum (K L) (setting L A) p q x π ρ l e, ζ));
+      }
 
 pub agreement : Agreement
-agreement M L A = record { offers = offers_of L A; meets = meets L A; sums = sums_of L A; finds = finds_of L A }
+agreement M L A = record { a = offers_of L A; b = meets L A; c = sums_of L A }

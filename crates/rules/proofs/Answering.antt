@@ -45,14 +45,6 @@ pub hold_append : (qs rs : List Question) → Hold qs → Hold rs → Hold (qs +
 hold_append [] rs h g = g
 hold_append (q ∷ qs) rs h g = (h.0, hold_append qs rs h.1 g)
 
-pub hold_left : (qs rs : List Question) → Hold (qs ++ rs) → Hold qs
-hold_left [] rs h = tt
-hold_left (q ∷ qs) rs h = (h.0, hold_left qs rs h.1)
-
-pub hold_right : (qs rs : List Question) → Hold (qs ++ rs) → Hold rs
-hold_right [] rs h = h
-hold_right (q ∷ qs) rs h = hold_right qs rs h.1
-
 pub hold_then : (qs rs : List Question) (a : Answer) → Hold qs → Answers rs a → Answers (qs ++ rs) a
 hold_then [] rs a h g = g
 hold_then (q ∷ qs) rs a h g = inl (h.0, hold_then qs rs a h.1 g)

@@ -1,5 +1,5 @@
--- The rules fix the answer, what is handed out and the end left behind.
-use Rattle.std.proofs.Common.{◌≡◌, ℕ, ◌+◌, ◌≤◌, List, sym, refl, ap, ◌∙◌, subst, ap₂, subst₂, arith}
+-- The rules fix the answer, the bytes written and the end left behind.
+use Rattle.std.proofs.Common.{◌≡◌, ℕ, ◌+◌, ◌≤◌, List, sym, refl, ap, ◌∙◌, subst, ap₂, arith}
 use mathlib.Core.HLevel.{Discrete, hedberg, is_prop→PathP, Π_prop}
 use native.Mathlib.Bridge.{le_prop}
 use native.Mathlib.Decide.{ℕ_discrete}
@@ -9,14 +9,11 @@ use Rattle.ring.proofs.PolyModel.{poly_ring}
 use Rattle.algebra.proofs.Settings.{root_unique}
 use Rattle.algebra.proofs.Unique.{ideal_path}
 use Rattle.algebra.proofs.Multiples.{times_unique}
-use Rattle.algebra.proofs.Group.{adds_unique}
-use Rattle.algebra.proofs.Line.{place_unique}
 use Rattle.algebra.specs.Places.{Times}
 use Rattle.rules.specs.Questions.{Answer, accepted, refused}
 use Rattle.rules.specs.Packets.{number}
 use Rattle.rules.specs.Settings.{unit, Monic, Coprime, Accepted, setting, Ideals}
-use Rattle.rules.specs.Places.{Given, Places, Shows, Means, FindGives, Add, AddGives}
-use Rattle.rules.specs.Ends.{State, blank, ready, opened, keyed, Call, load, «open», tell, take, key, close, find, add, Output, gave, Under, questions, After, KeyIs, OpenLeaves, TakeLeaves, Does}
+use Rattle.rules.specs.Ends.{State, blank, ready, opened, keyed, Call, load, «open», tell, take, key, close, questions, After, KeyIs, OpenLeaves, TakeLeaves, Does}
 use Rattle.rules.proofs.Answering.{answers_unique}
 use Rattle.rules.proofs.Offered.{closest_unique}
 use Rattle.algebra.specs.Places.{Place, place}
@@ -99,34 +96,7 @@ module _ {M : Meaning} (L : Lawful M) where
   take_unique (opened A a δ) x t u (k, h, e) (l, g, f) = e ∙ ap (λ (z : Ideals L A). keyed A a δ z) (key_unique A δ x k l h g) ∙ sym f
   take_unique (keyed A a δ k) n t u h g = absurd h
 
-  -- a place is given out in one way, and read as one place
-  pub given_path : (g h : Given) → g.Q ≡ h.Q → g.P ≡ h.P → g.off ≡ h.off → g ≡ h
-  given_path g h p q o = λ i. record { Q = p i; P = q i; off = o i }
-
-  shows_one : (A : Accepted L) (p : Places L A) (g h : Given) → Shows L A p g → Shows L A p h → g ≡ h
-  shows_one A p g h (e, f, o) (e', f', o') = given_path g h (e ∙ sym e') (f ∙ sym f') (o ∙ sym o')
-
-  pub means_one : (A : Accepted L) (p q : Places L A) (g : Given) → Means L A g p → Means L A g q → p ≡ q
-  means_one A p q g (e, f, o) (e', f', o') =
-      ap₂ (place (K L) (setting L A)) (ideal_path (K L) (setting L A) p.ideal q.ideal (e ∙ sym e') (f ∙ sym f')) (o ∙ sym o')
-
-  find_unique : (A : Accepted L) (n : List ℕ) (z y : Given) → FindGives L A n z → FindGives L A n y → z ≡ y
-  find_unique A n z y (p, π, γ) (q, ρ, η) =
-      shows_one A q z y (subst (λ (x : Places L A). Shows L A x z) (place_unique (K L) (setting L A) π ρ) γ) η
-
-  add_unique : (A : Accepted L) (g h z y : Given) → AddGives L A g h z → AddGives L A g h y → z ≡ y
-  add_unique A g h z y (p, q, x, μ, ν, α, ζ) (p', q', x', μ', ν', α', ζ') =
-      let β = subst₂ (λ (a b : Places L A). Add L A a b x) (means_one A p p' g μ μ') (means_one A q q' h ν ν') α in
-      shows_one A x' z y (subst (λ (w : Places L A). Shows L A w z) (adds_unique (K L) (setting L A) p' q' x x' β α') ζ) ζ'
-
-  under_unique : (s : State L) (P : Accepted L → Given → Type 0) (z y : Given) → ((A : Accepted L) → P A z → P A y → z ≡ y)
-      → Under L s (λ A. P A z) → Under L s (λ A. P A y) → z ≡ y
-  under_unique blank P z y one h g = absurd h
-  under_unique (ready A) P z y one h g = one A h g
-  under_unique (opened A a δ) P z y one h g = one A h g
-  under_unique (keyed A a δ k) P z y one h g = one A h g
-
-  after_unique : (s : State L) (c : Call) (ans : Answer) (w v : Output) (t u : State L) → After L s c ans w t → After L s c ans v u → (w ≡ v) × (t ≡ u)
+  after_unique : (s : State L) (c : Call) (ans : Answer) (w v : List ℕ) (t u : State L) → After L s c ans w t → After L s c ans v u → (w ≡ v) × (t ≡ u)
   after_unique s c (refused n) w v t u h g = (h.0 ∙ sym g.0, h.1 ∙ sym g.1)
   after_unique s (load x) accepted w v t u (A, e, p, q) (B, f, p', q') =
       (p ∙ sym p', q ∙ ap (λ (C : Accepted L). ready C) (accepted_path A B (e ∙ sym f)) ∙ sym q')
@@ -135,13 +105,9 @@ module _ {M : Meaning} (L : Lawful M) where
   after_unique s (take x) accepted w v t u h g = (h.0 ∙ sym g.0, take_unique s x t u h.1 g.1)
   after_unique s (key x) accepted w v t u h g = (h.0 ∙ sym g.0, h.1 ∙ sym g.1)
   after_unique s close accepted w v t u h g = (h.0 ∙ sym g.0, h.1 ∙ sym g.1)
-  after_unique s (find n) accepted w v t u (z, p, e, q) (y, p', e', q') =
-      (e ∙ ap gave (under_unique s (λ A x. FindGives L A n x) z y (λ A. find_unique A n z y) p p') ∙ sym e', q ∙ sym q')
-  after_unique s (add x y) accepted w v t u (z, p, e, q) (z', p', e', q') =
-      (e ∙ ap gave (under_unique s (λ A w. AddGives L A x y w) z z' (λ A. add_unique A x y z z') p p') ∙ sym e', q ∙ sym q')
 
-  -- one answer, one output, one end
-  pub does_unique : (s : State L) (c : Call) (a b : Answer) (w v : Output) (t u : State L) → Does L s c a w t → Does L s c b v u
+  -- one answer, one string of bytes, one end
+  pub does_unique : (s : State L) (c : Call) (a b : Answer) (w v : List ℕ) (t u : State L) → Does L s c a w t → Does L s c b v u
       → (a ≡ b) × (w ≡ v) × (t ≡ u)
   does_unique s c a b w v t u h g =
       let e = answers_unique (questions L s c) a b h.answer g.answer in

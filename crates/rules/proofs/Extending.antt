@@ -3,7 +3,7 @@ use Rattle.std.proofs.Common.{◌≡◌, ℕ, suc, ◌<◌, ◌≤◌, ◌≢◌
 use native.Mathlib.Decide.{dec_le, dec_lt}
 use Rattle.field.specs.Meaning.{Meaning, Lawful}
 use Rattle.rules.specs.Settings.{Accepted}
-use Rattle.rules.specs.Ends.{State, ready, close, wrote, Does}
+use Rattle.rules.specs.Ends.{State, ready, close, Does}
 use Rattle.rules.specs.Questions.{accepted}
 use Rattle.rules.specs.Runs.{Side, left, Event, Run}
 use Rattle.rules.proofs.Openings.{side?}
@@ -28,7 +28,7 @@ module _ {M : Meaning} (L : Lawful M) (A : Accepted L) where
   abbrev pub empty_run : Run L A
   empty_run = record {
     count = 0;
-    event = λ i. record { side = left; call = close; answer = accepted; output = wrote [] };
+    event = λ i. record { side = left; call = close; answer = accepted; written = [] };
     end = λ σ i. ready A;
     starts = λ σ. refl;
     moves = λ i h. absurd (omega arith);
@@ -36,7 +36,7 @@ module _ {M : Meaning} (L : Lawful M) (A : Accepted L) where
   }
 
   module _ (run : Run L A) (ev : Event) (s : State L)
-      (does : Does L (run.end ev.side run.count) ev.call ev.answer ev.output s) where
+      (does : Does L (run.end ev.side run.count) ev.call ev.answer ev.written s) where
     unfoldable pub event_then : ℕ → Event
     event_then i = pick (dec_lt i run.count) (run.event i) ev
 
@@ -72,18 +72,18 @@ module _ {M : Meaning} (L : Lawful M) (A : Accepted L) where
     end_rested σ n = end_new σ ∙ pick_no (side? ev.side σ) s (run.end σ run.count) n
 
     pub moves_then : (i : ℕ) → i < suc run.count
-        → Does L (end_then (event_then i).side i) (event_then i).call (event_then i).answer (event_then i).output (end_then (event_then i).side (suc i))
+        → Does L (end_then (event_then i).side i) (event_then i).call (event_then i).answer (event_then i).written (end_then (event_then i).side (suc i))
     moves_then i h = go (dec_lt i run.count)
       where
         go : Dec (i < run.count)
-            → Does L (end_then (event_then i).side i) (event_then i).call (event_then i).answer (event_then i).output (end_then (event_then i).side (suc i))
-        go (yes g) = subst (λ (e : Event). Does L (end_then e.side i) e.call e.answer e.output (end_then e.side (suc i))) (sym (event_old i g))
-            (subst₂ (λ (x y : State L). Does L x (run.event i).call (run.event i).answer (run.event i).output y)
+            → Does L (end_then (event_then i).side i) (event_then i).call (event_then i).answer (event_then i).written (end_then (event_then i).side (suc i))
+        go (yes g) = subst (λ (e : Event). Does L (end_then e.side i) e.call e.answer e.written (end_then e.side (suc i))) (sym (event_old i g))
+            (subst₂ (λ (x y : State L). Does L x (run.event i).call (run.event i).answer (run.event i).written y)
             (sym (end_old (run.event i).side i (omega arith))) (sym (end_old (run.event i).side (suc i) (omega arith))) (run.moves i g))
         go (no n) = let z : run.count ≡ i = omega arith in
-            subst (λ (j : ℕ). Does L (end_then (event_then j).side j) (event_then j).call (event_then j).answer (event_then j).output (end_then (event_then j).side (suc j))) z
-            (subst (λ (e : Event). Does L (end_then e.side run.count) e.call e.answer e.output (end_then e.side (suc run.count))) (sym event_new)
-            (subst₂ (λ (x y : State L). Does L x ev.call ev.answer ev.output y)
+            subst (λ (j : ℕ). Does L (end_then (event_then j).side j) (event_then j).call (event_then j).answer (event_then j).written (end_then (event_then j).side (suc j))) z
+            (subst (λ (e : Event). Does L (end_then e.side run.count) e.call e.answer e.written (end_then e.side (suc run.count))) (sym event_new)
+            (subst₂ (λ (x y : State L). Does L x ev.call ev.answer ev.written y)
             (sym (end_old ev.side run.count (omega arith))) (sym end_acted) does))
 
     pub rests_then : (i : ℕ) (σ : Side) → i < suc run.count → (event_then i).side ≢ σ → end_then σ (suc i) ≡ end_then σ i

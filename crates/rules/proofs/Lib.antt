@@ -10,10 +10,5 @@ pub mod Single
 pub mod Loaded
 pub mod Roots
 pub mod Total
-pub mod WorkedForms
-pub mod WorkedLine
-pub mod WorkedEnds
-pub mod WorkedCalls
-pub mod WorkedCases
-pub mod WorkedExchange
+pub mod Cases
 pub mod Extending

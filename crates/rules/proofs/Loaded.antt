@@ -6,7 +6,7 @@ use Rattle.ring.proofs.PolyModel.{poly_ring}
 use Rattle.rules.specs.Questions.{Question, accepted, Hold, ◌if_not◌}
 use Rattle.rules.specs.Packets.{four, packet_asks, body_asks, body, first, second, Holds}
 use Rattle.rules.specs.Settings.{EvenDegree, Monic, Coprime, Accepted, body_of, poly_of, setting_packet}
-use Rattle.rules.specs.Ends.{blank, ready, load, wrote, questions, SizeIs, Does}
+use Rattle.rules.specs.Ends.{blank, ready, load, questions, SizeIs, Does}
 use Rattle.rules.proofs.Answering.{hold_append, hold_answers}
 use Rattle.rules.proofs.Written.{number_four, packet_holds}
 use Rattle.rules.proofs.Spelled.{body_length, body_holds, body_read}
@@ -28,7 +28,7 @@ module _ {M : Meaning} (L : Lawful M) (A : Accepted L) where
   size_is : SizeIs L (body x first)
   size_is = subst (SizeIs L) holds.one (refl, number_four M.size (let h = L.high in omega arith))
 
-  pub load_accepts : Does L blank (load x) accepted (wrote []) (ready A)
+  pub load_accepts : Does L blank (load x) accepted [] (ready A)
   load_accepts = record {
     answer = hold_answers (questions L blank (load x)) (
       tt,

@@ -6,8 +6,8 @@ use Rattle.algebra.proofs.Multiples.{times_lawful, times_multiple, times_exists}
 use Rattle.algebra.proofs.Line.{place_legal, place_unique, place_multiple, closest_place}
 use Rattle.rules.specs.Questions.{Question, accepted, refused, Answers, Hold, ◌if_not◌}
 use Rattle.rules.specs.Packets.{packet_asks, body_asks, body, first, second, Holds}
-use Rattle.rules.specs.Settings.{Accepted, setting, Ideals, unit_ideal, Closest, body_of, poly_of, ideal_asks, offer}
-use Rattle.rules.specs.Ends.{Reads, Other, KeyIs, OtherKey, reader_asks, take_asks, Passes, opened}
+use Rattle.rules.specs.Settings.{Accepted, setting, Ideals, unit_ideal, Closest, body_of, poly_of, offer}
+use Rattle.rules.specs.Ends.{ideal_asks, Reads, Other, KeyIs, OtherKey, take_asks, opened}
 use Rattle.rules.proofs.Answering.{hold_append, hold_then}
 use Rattle.rules.proofs.Written.{packet_holds}
 use Rattle.rules.proofs.Spelled.{body_length, body_holds, body_read}
@@ -80,15 +80,15 @@ module _ {M : Meaning} (L : Lawful M) (A : Accepted L) where
     abbrev asks_i : List Question
     asks_i = ideal_asks L A (poly_of L (body (offer L A b) first)) (poly_of L (body (offer L A b) second))
 
-    offer_asked_lem : Hold (reader_asks L A (offer L A b))
+    abbrev up_to43 : List Question
+    up_to43 = asks_x ++ asks_q ++ asks_p ++ asks_i
+
+    offer_asked_lem : Hold up_to43
     offer_asked_lem = hold_append (asks_x ++ asks_q ++ asks_p) asks_i (hold_append (asks_x ++ asks_q) asks_p (hold_append asks_x asks_q
         offer_holds.asked
         (subst (λ x. Hold (body_asks M.size x)) offer_holds.one (body_holds L b.Q)))
         (subst (λ x. Hold (body_asks M.size x)) offer_holds.other (body_holds L b.P)))
         (subst₂ (λ Q P. Hold (ideal_asks L A Q P)) offer_reads.0 offer_reads.1 ideal_holds)
-
-    pub offer_passes : b ≢ unit_ideal L A → Passes L A (offer L A b) b
-    offer_passes h = record { asked = offer_asked_lem; reads = offer_reads; other = h }
 
     -- who reads the offer reads b
     reads_unique : (c : Ideals L A) → Reads L A (offer L A b) c → c ≡ b
@@ -117,7 +117,7 @@ module _ {M : Meaning} (L : Lawful M) (A : Accepted L) where
           → Answers (take_asks L (opened A a δ) (offer L A b)) accepted
       take_accepts a h g = inl (
         tt,
-        hold_then (reader_asks L A (offer L A b)) asks_k accepted offer_asked_lem
+        hold_then up_to43 asks_k accepted offer_asked_lem
             (inl ((b, offer_reads, h), inl ((k, key_there, g), refl))),
       )
 
@@ -125,6 +125,6 @@ module _ {M : Meaning} (L : Lawful M) (A : Accepted L) where
           → Answers (take_asks L (opened A a δ) (offer L A b)) (refused 45)
       take_refuses a h e = inl (
         tt,
-        hold_then (reader_asks L A (offer L A b)) asks_k (refused 45) offer_asked_lem
+        hold_then up_to43 asks_k (refused 45) offer_asked_lem
             (inl ((b, offer_reads, h), inr ((λ o. o.2 (key_is o.0 o.1 ∙ e)), refl))),
       )

@@ -6,7 +6,7 @@ use Rattle.field.specs.Meaning.{Meaning, Lawful}
 use Rattle.rules.specs.Questions.{Answer, accepted, refused}
 use Rattle.rules.specs.Packets.{number}
 use Rattle.rules.specs.Settings.{Accepted, Ideals, unit_ideal, Closest}
-use Rattle.rules.specs.Ends.{State, ready, opened, keyed, Call, load, «open», tell, take, key, close, find, add, Output, questions, Does}
+use Rattle.rules.specs.Ends.{State, ready, opened, keyed, Call, load, «open», tell, take, key, close, questions, Does}
 use Rattle.rules.specs.Runs.{Side, left, right, Run, Calls, Opening, Within}
 use Rattle.rules.proofs.Answering.{answers_hold}
 use Rattle.rules.proofs.Offered.{closest_unique}
@@ -23,7 +23,7 @@ module _ {M : Meaning} (L : Lawful M) (A : Accepted L) where
   Inside a δ s = (s ≡ opened A a δ) ⊎ ((k : Ideals L A) × (s ≡ keyed A a δ k))
 
   -- a keyed end keeps its key until it is closed
-  keyed_stays : (a k : Ideals L A) (δ : ℕ) (c : Call) (ans : Answer) (w : Output) (s : State L)
+  keyed_stays : (a k : Ideals L A) (δ : ℕ) (c : Call) (ans : Answer) (w : List ℕ) (s : State L)
       → Does L (keyed A a δ k) c ans w s → c ≢ close → s ≡ keyed A a δ k
   keyed_stays a k δ c (refused n) w s d h = d.after.1
   keyed_stays a k δ (load x) accepted w s d h = absurd (answers_hold (questions L (keyed A a δ k) (load x)) d.answer).0
@@ -32,11 +32,9 @@ module _ {M : Meaning} (L : Lawful M) (A : Accepted L) where
   keyed_stays a k δ (take x) accepted w s d h = absurd d.after.1
   keyed_stays a k δ (key x) accepted w s d h = d.after.1
   keyed_stays a k δ close accepted w s d h = absurd (h refl)
-  keyed_stays a k δ (find n) accepted w s d h = d.after.3
-  keyed_stays a k δ (add x y) accepted w s d h = d.after.3
 
   -- an open end stays open or gets keyed
-  opened_goes : (a : Ideals L A) (δ : ℕ) (c : Call) (ans : Answer) (w : Output) (s : State L)
+  opened_goes : (a : Ideals L A) (δ : ℕ) (c : Call) (ans : Answer) (w : List ℕ) (s : State L)
       → Does L (opened A a δ) c ans w s → c ≢ close → Inside a δ s
   opened_goes a δ c (refused n) w s d h = inl d.after.1
   opened_goes a δ (load x) accepted w s d h = absurd (answers_hold (questions L (opened A a δ) (load x)) d.answer).0
@@ -45,32 +43,30 @@ module _ {M : Meaning} (L : Lawful M) (A : Accepted L) where
   opened_goes a δ (take x) accepted w s d h = let (k, h, e) = d.after.1 in inr (k, e)
   opened_goes a δ (key x) accepted w s d h = absurd (answers_hold (questions L (opened A a δ) (key x)) d.answer).0
   opened_goes a δ close accepted w s d h = absurd (h refl)
-  opened_goes a δ (find n) accepted w s d h = inl d.after.3
-  opened_goes a δ (add x y) accepted w s d h = inl d.after.3
 
   module _ (run : Run L A) (σ : Side) where
     abbrev Quiet : ℕ → Type 0
     Quiet j = (run.event j).side ≡ σ → (run.event j).call ≢ close
 
     pub calls_does : (i : ℕ) (c : Call) (ans : Answer) → Calls L A run σ i c ans
-        → Does L (run.end σ i) c ans (run.event i).output (run.end σ (suc i))
-    calls_does i c ans k = subst₃ (λ τ x y. Does L (run.end τ i) x y (run.event i).output (run.end τ (suc i)))
+        → Does L (run.end σ i) c ans (run.event i).written (run.end σ (suc i))
+    calls_does i c ans k = subst₃ (λ τ x y. Does L (run.end τ i) x y (run.event i).written (run.end τ (suc i)))
         k.here k.call_is k.answer_is (run.moves i k.happens)
 
     keyed_step : (a k : Ideals L A) (δ j : ℕ) → j < run.count → Quiet j → run.end σ j ≡ keyed A a δ k → run.end σ (suc j) ≡ keyed A a δ k
     keyed_step a k δ j l q e = elim (side? (run.event j).side σ) [
-      | yes s ↦ keyed_stays a k δ (run.event j).call (run.event j).answer (run.event j).output (run.end σ (suc j))
-          (subst (λ x. Does L x (run.event j).call (run.event j).answer (run.event j).output (run.end σ (suc j))) e
-          (subst (λ τ. Does L (run.end τ j) (run.event j).call (run.event j).answer (run.event j).output (run.end τ (suc j))) s (run.moves j l)))
+      | yes s ↦ keyed_stays a k δ (run.event j).call (run.event j).answer (run.event j).written (run.end σ (suc j))
+          (subst (λ x. Does L x (run.event j).call (run.event j).answer (run.event j).written (run.end σ (suc j))) e
+          (subst (λ τ. Does L (run.end τ j) (run.event j).call (run.event j).answer (run.event j).written (run.end τ (suc j))) s (run.moves j l)))
           (q s)
       | no n ↦ run.rests j σ l n ∙ e
     ]
 
     inside_step : (a : Ideals L A) (δ j : ℕ) → j < run.count → Quiet j → Inside a δ (run.end σ j) → Inside a δ (run.end σ (suc j))
     inside_step a δ j l q (inl e) = elim (side? (run.event j).side σ) [
-      | yes s ↦ opened_goes a δ (run.event j).call (run.event j).answer (run.event j).output (run.end σ (suc j))
-          (subst (λ x. Does L x (run.event j).call (run.event j).answer (run.event j).output (run.end σ (suc j))) e
-          (subst (λ τ. Does L (run.end τ j) (run.event j).call (run.event j).answer (run.event j).output (run.end τ (suc j))) s (run.moves j l)))
+      | yes s ↦ opened_goes a δ (run.event j).call (run.event j).answer (run.event j).written (run.end σ (suc j))
+          (subst (λ x. Does L x (run.event j).call (run.event j).answer (run.event j).written (run.end σ (suc j))) e
+          (subst (λ τ. Does L (run.end τ j) (run.event j).call (run.event j).answer (run.event j).written (run.end τ (suc j))) s (run.moves j l)))
           (q s)
       | no n ↦ inl (run.rests j σ l n ∙ e)
     ]
@@ -98,8 +94,8 @@ module _ {M : Meaning} (L : Lawful M) (A : Accepted L) where
     pub opening_begins : (b : ℕ) (secret : List ℕ) → Opening L A run σ b secret
         → (a : Ideals L A) × (δ : ℕ) × Closest L A (number secret) a δ × (a ≢ unit_ideal L A) × (run.end σ (suc b) ≡ opened A a δ)
     opening_begins b secret o =
-        let d : Does L (ready A) («open» secret) accepted (run.event b).output (run.end σ (suc b))
-        = subst (λ x. Does L x («open» secret) accepted (run.event b).output (run.end σ (suc b))) o.same
+        let d : Does L (ready A) («open» secret) accepted (run.event b).written (run.end σ (suc b))
+        = subst (λ x. Does L x («open» secret) accepted (run.event b).written (run.end σ (suc b))) o.same
         (calls_does b («open» secret) accepted o.begins) in
         let h = answers_hold (questions L (ready A) («open» secret)) d.answer in
         let (c, ε, cl, n) = h.1.1.0 in

@@ -9,18 +9,15 @@ use Rattle.ring.proofs.Quote.{quote, auto}
 use Rattle.ring.proofs.Hypotheses.{by_hyp₂}
 use Rattle.ring.proofs.PolyRing.{PolyRing}
 use Rattle.ring.proofs.PolyModel.{poly_ring}
-use Rattle.ring.proofs.Lengths.{pos_len}
 use Rattle.ring.proofs.Euclid.{gcd, common_len, remainder_unique}
 use Rattle.algebra.proofs.Unique.{ideal_path}
 use Rattle.algebra.proofs.Multiples.{times_exists}
-use Rattle.algebra.proofs.Adds.{adds_exists}
 use Rattle.algebra.proofs.Line.{place_exists, place_closest}
 use Rattle.rules.specs.Questions.{Question, Answer, accepted, refused, Answers, Hold, ◌if_not◌}
 use Rattle.rules.specs.Packets.{All, number, byte, kind, start, long, first, second, body, words, Leads, packet_asks, body_asks}
-use Rattle.rules.specs.Settings.{EvenDegree, unit, Monic, Coprime, Accepted, setting, Ideals, unit_ideal, poly_of, ideal_asks}
-use Rattle.rules.specs.Places.{Given, Places, codes_of, poly_from, Shows, Means, place_asks, FindGives, AddGives}
-use Rattle.rules.specs.Ends.{State, blank, ready, opened, keyed, Call, load, «open», tell, take, key, close, find, add, Output, wrote, gave, BlankOrReady, Ready, Open, Keyed, OpenOrKeyed, Loaded, OpensTo, Reads, Other, KeyIs, OtherKey, SizeIs, offered, offered_key, secret_asks, offer_asks, sum_asks, closed, wiped, questions, Leaves, Does, Settled}
-use Rattle.rules.proofs.Answering.{Decided, answers_exist, answers_hold, hold_left, hold_right}
+use Rattle.rules.specs.Settings.{EvenDegree, unit, Monic, Coprime, Accepted, setting, Ideals, unit_ideal, poly_of}
+use Rattle.rules.specs.Ends.{State, blank, ready, opened, keyed, Call, load, «open», tell, take, key, close, BlankOrReady, Ready, Open, Keyed, OpenOrKeyed, OpensTo, ideal_asks, Reads, Other, KeyIs, OtherKey, SizeIs, offered, offered_key, secret_asks, offer_asks, closed, wiped, questions, Leaves, Does, Settled}
+use Rattle.rules.proofs.Answering.{Decided, answers_exist, answers_hold}
 use Rattle.rules.proofs.Offered.{closest_unique}
 use Rattle.rules.proofs.Determined.{code?, key_unique, does_unique}
 use Rattle.rules.proofs.Roots.{accepted_exists}
@@ -177,24 +174,6 @@ module _ {M : Meaning} (L : Lawful M) where
           ])
     ]
 
-    ideal_asked? : (Q P : R L) → Decided (ideal_asks L A Q P)
-    ideal_asked? Q P = (
-      both (dec_le 1 ((K L).len Q)) (dec_le ((K L).len Q) A.m),
-      (
-        monic? Q,
-        (
-          dec_lt ((K L).len P) ((K L).len Q),
-          (divides_any? (K L) Q ((K L).r.◌⊕◌ A.D ((K L).r.⊖◌ ((K L).r.◌⊗◌ P P))), tt),
-        ),
-      ),
-    )
-
-    place? : (g : Given) → Decided (place_asks L A g)
-    place? g = let Q = poly_from L g.Q in let i = ideal_asked? Q (poly_from L g.P) in (
-      both (all_low? M.size g.Q) (all_low? M.size g.P),
-      (i.0, (i.1.0, (i.1.1.0, (i.1.1.1.0, (dec_le (g.off + (K L).len Q) A.m, tt))))),
-    )
-
     offer? : (δ : ℕ) (x : List ℕ) (a : Ideals L A) → Decided (offer_asks L (opened A a δ) x)
     offer? δ x a =
         let Q = poly_of L (body x first) in
@@ -203,7 +182,16 @@ module _ {M : Meaning} (L : Lawful M) where
         (decided_append (packet_asks 3 4 x ++ body_asks M.size (body x first) ++ body_asks M.size (body x second)) (ideal_asks L A Q P)
         (decided_append (packet_asks 3 4 x ++ body_asks M.size (body x first)) (body_asks M.size (body x second))
         (decided_append (packet_asks 3 4 x) (body_asks M.size (body x first)) (packet? 3 4 x) (body? M.size (body x first)))
-        (body? M.size (body x second))) (ideal_asked? Q P))
+        (body? M.size (body x second))) (
+          both (dec_le 1 ((K L).len Q)) (dec_le ((K L).len Q) A.m),
+          (
+            monic? Q,
+            (
+              dec_lt ((K L).len P) ((K L).len Q),
+              (divides_any? (K L) Q ((K L).r.◌⊕◌ A.D ((K L).r.⊖◌ ((K L).r.◌⊗◌ P P))), tt),
+            ),
+          ),
+        ))
         (other? x, (other_key? δ x, tt))
 
   ready_blank? : (s : State L) → Dec (BlankOrReady L s)
@@ -235,18 +223,6 @@ module _ {M : Meaning} (L : Lawful M) where
   open_keyed? (ready A) = no (λ h. h)
   open_keyed? (opened A a δ) = yes tt
   open_keyed? (keyed A a δ k) = yes tt
-
-  loaded? : (s : State L) → Dec (Loaded L s)
-  loaded? blank = no (λ h. h)
-  loaded? (ready A) = yes tt
-  loaded? (opened A a δ) = yes tt
-  loaded? (keyed A a δ k) = yes tt
-
-  sum? : (s : State L) (g h : Given) → Decided (sum_asks L s g h)
-  sum? blank g h = tt
-  sum? (ready A) g h = decided_append (place_asks L A g) (place_asks L A h) (place? A g) (place? A h)
-  sum? (opened A a δ) g h = decided_append (place_asks L A g) (place_asks L A h) (place? A g) (place? A h)
-  sum? (keyed A a δ k) g h = decided_append (place_asks L A g) (place_asks L A h) (place? A g) (place? A h)
 
   secret? : (s : State L) (n : List ℕ) → Decided (secret_asks L s n)
   secret? blank n = tt
@@ -285,70 +261,34 @@ module _ {M : Meaning} (L : Lawful M) where
   questions_decided s (take x) = (open? s, taken? s x)
   questions_decided s (key room) = (keyed? s, (dec_le (length (offered_key L s)) room, tt))
   questions_decided s close = tt
-  questions_decided s (find n) = (loaded? s, (both (dec_le 1 (length n)) (dec_le (length n) 32), tt))
-  questions_decided s (add g h) = (loaded? s, sum? s g h)
-
-  -- find and add give a place
-  shown : (A : Accepted L) (p : Places L A) → (z : Given) × Shows L A p z
-  shown A p = (record { Q = codes_of L p.ideal.Q; P = codes_of L p.ideal.P; off = p.off }, (refl, refl, refl))
-
-  found : (A : Accepted L) (n : List ℕ) → (z : Given) × FindGives L A n z
-  found A n =
-      let (p, π) = place_exists (K L) (setting L A) (number n) in
-      let (z, ζ) = shown A p in
-      (z, (p, π, ζ))
-
-  -- what passes a place's questions is read as a place
-  pub read-place : (A : Accepted L) (g : Given) → Hold (place_asks L A g) → (p : Places L A) × Means L A g p
-  read-place A g h =
-      let Q = poly_from L g.Q in
-      let k = h.1.0 in
-      (place (K L) (setting L A) (record { Q = Q; P = poly_from L g.P; alive = pos_len (K L) Q k.0; exact = h.1.1.1.1.0 }) g.off, (refl, refl, refl))
-
-  summed : (A : Accepted L) (g h : Given) → Hold (place_asks L A g ++ place_asks L A h) → (z : Given) × AddGives L A g h z
-  summed A g h k =
-      let (p, μ) = read-place A g (hold_left (place_asks L A g) (place_asks L A h) k) in
-      let (q, ν) = read-place A h (hold_right (place_asks L A g) (place_asks L A h) k) in
-      let (c, f, α) = adds_exists (K L) (setting L A) p.ideal p.off q.ideal q.off in
-      let x = place (K L) (setting L A) c f in
-      let (z, ζ) = shown A x in
-      (z, (p, q, x, μ, ν, α, ζ))
 
   -- an accepted call leaves an end
-  leaves : (s : State L) (c : Call) → Hold (questions L s c) → (w : Output) × (t : State L) × Leaves L s c w t
+  leaves : (s : State L) (c : Call) → Hold (questions L s c) → (w : List ℕ) × (t : State L) × Leaves L s c w t
   leaves s (load x) h =
       let e = h.1.1.1.1.1.1.1.1.1 in
       let (A, q) = accepted_exists L (poly_of L (body x second)) e.0 e.1.0 e.1.1.0 in
-      (wrote [], ready A, (A, q, refl, refl))
+      ([], ready A, (A, q, refl, refl))
   leaves blank («open» n) h = absurd h.0
-  leaves (ready A) («open» n) h = let (a, δ, cl, o) = h.1.1.0 in (wrote (replicate (length n) 0), opened A a δ, (refl, (a, δ, cl, refl)))
+  leaves (ready A) («open» n) h = let (a, δ, cl, o) = h.1.1.0 in (replicate (length n) 0, opened A a δ, (refl, (a, δ, cl, refl)))
   leaves (opened A a δ) («open» n) h = absurd h.0
   leaves (keyed A a δ k) («open» n) h = absurd h.0
-  leaves s (tell room) h = (wrote (offered L s), s, (refl, refl))
+  leaves s (tell room) h = (offered L s, s, (refl, refl))
   leaves blank (take x) h = absurd h.0
   leaves (ready A) (take x) h = absurd h.0
   leaves (opened A a δ) (take x) h =
       let o = h.1.1.1.1.1.1.1.1.1.1.1.1.1.1.1.1.0 in
-      (wrote [], keyed A a δ o.0, (refl, (o.0, o.1, refl)))
+      ([], keyed A a δ o.0, (refl, (o.0, o.1, refl)))
   leaves (keyed A a δ k) (take x) h = absurd h.0
-  leaves s (key room) h = (wrote (offered_key L s), s, (refl, refl))
-  leaves s close h = (wrote [], closed L s, (refl, refl))
-  leaves blank (find n) h = absurd h.0
-  leaves (ready A) (find n) h = let (z, f) = found A n in (gave z, ready A, (z, f, refl, refl))
-  leaves (opened A a δ) (find n) h = let (z, f) = found A n in (gave z, opened A a δ, (z, f, refl, refl))
-  leaves (keyed A a δ k) (find n) h = let (z, f) = found A n in (gave z, keyed A a δ k, (z, f, refl, refl))
-  leaves blank (add x y) h = absurd h.0
-  leaves (ready A) (add x y) h = let (z, f) = summed A x y h.1 in (gave z, ready A, (z, f, refl, refl))
-  leaves (opened A a δ) (add x y) h = let (z, f) = summed A x y h.1 in (gave z, opened A a δ, (z, f, refl, refl))
-  leaves (keyed A a δ k) (add x y) h = let (z, f) = summed A x y h.1 in (gave z, keyed A a δ k, (z, f, refl, refl))
+  leaves s (key room) h = (offered_key L s, s, (refl, refl))
+  leaves s close h = ([], closed L s, (refl, refl))
 
   -- every end does every call
-  pub does_exists : (s : State L) (c : Call) → (ans : Answer) × (w : Output) × (t : State L) × Does L s c ans w t
+  pub does_exists : (s : State L) (c : Call) → (ans : Answer) × (w : List ℕ) × (t : State L) × Does L s c ans w t
   does_exists s c = let (ans, α) = answers_exist (questions L s c) (questions_decided s c) in go ans α
     where
-      go : (ans : Answer) → Answers (questions L s c) ans → (ans : Answer) × (w : Output) × (t : State L) × Does L s c ans w t
+      go : (ans : Answer) → Answers (questions L s c) ans → (ans : Answer) × (w : List ℕ) × (t : State L) × Does L s c ans w t
       go accepted α = let (w, t, l) = leaves s c (answers_hold (questions L s c) α) in (accepted, w, t, record { answer = α; after = l })
-      go (refused n) α = (refused n, wrote (wiped L c), s, record { answer = α; after = (refl, refl) })
+      go (refused n) α = (refused n, wiped L c, s, record { answer = α; after = (refl, refl) })
 
 pub settled : Settled
 settled M L s c = (does_exists L s c, does_unique L s c)

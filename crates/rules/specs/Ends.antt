@@ -1,10 +1,12 @@
 -- Ends: what an end is, the calls, the questions of each call in their order, and what an accepted call leaves.
-use Rattle.std.specs.Prelude.{◌≡◌, ℕ, ◌≤◌, ◌≢◌, List, [], ◌∷◌, ◌++◌, length, replicate}
+use Rattle.std.specs.Prelude.{◌≡◌, ℕ, ◌<◌, ◌≤◌, ◌≢◌, List, [], ◌∷◌, ◌++◌, length, replicate}
 use Rattle.field.specs.Meaning.{Meaning, Lawful}
-use Rattle.rules.specs.Questions.{Question, ◌if_not◌, Answer, accepted, refused, Answers, Hold}
+use Rattle.algebra.specs.Codes.{codes, R}
+use Rattle.ring.proofs.PolyModel.{poly_ring}
+use Rattle.rules.specs.Questions.{Question, ◌if_not◌, Answer, accepted, refused, Answers}
 use Rattle.rules.specs.Packets.{number, packet_asks, body_asks, body, first, second}
-use Rattle.rules.specs.Settings.{setting_asks, Accepted, Ideals, unit_ideal, Closest, MultipleOf, poly_of, ideal_asks, offer}
-use Rattle.rules.specs.Places.{Given, place_asks, FindGives, AddGives}
+use Rattle.rules.specs.Settings.{Monic, setting_asks, Accepted, Ideals, unit_ideal, Closest, MultipleOf, poly_of, offer}
+use Rattle.ring.proofs.Ring.{Divides}
 
 -- an end: ready with its setting; open with its ideal and its own distance too; keyed with its key too
 pub data State {M : Meaning} (L : Lawful M) : Type 0 where
@@ -13,7 +15,7 @@ pub data State {M : Meaning} (L : Lawful M) : Type 0 where
   opened : (A : Accepted L) → Ideals L A → ℕ → State L
   keyed : (A : Accepted L) → Ideals L A → ℕ → Ideals L A → State L
 
--- a call, with the bytes, the room or the places that it is handed
+-- a call, with the bytes or the room that it is handed
 pub data Call : Type 0 where
   load : List ℕ → Call
   «open» : List ℕ → Call
@@ -21,15 +23,14 @@ pub data Call : Type 0 where
   take : List ℕ → Call
   key : ℕ → Call
   close : Call
-  find : List ℕ → Call
-  add : Given → Given → Call
-
--- what a call hands out: the bytes that it wrote, or a place
-pub data Output : Type 0 where
-  wrote : List ℕ → Output
-  gave : Given → Output
 
 module _ {M : Meaning} (L : Lawful M) where
+  infixl 60 ◌⊕◌
+  infixl 70 ◌⊗◌
+  infix 80 ⊖◌
+  open poly_ring (codes L) use {r, len, der}
+  open (poly_ring (codes L)).r use {◌⊕◌, ⊖◌, ◌⊗◌}
+
   abbrev pub BlankOrReady : State L → Type 0
   BlankOrReady blank = Unit {0}
   BlankOrReady (ready A) = Unit {0}
@@ -60,19 +61,6 @@ module _ {M : Meaning} (L : Lawful M) where
   OpenOrKeyed (opened A a δ) = Unit {0}
   OpenOrKeyed (keyed A a δ k) = Unit {0}
 
-  abbrev pub Loaded : State L → Type 0
-  Loaded blank = ⊥
-  Loaded (ready A) = Unit {0}
-  Loaded (opened A a δ) = Unit {0}
-  Loaded (keyed A a δ k) = Unit {0}
-
-  -- it is so of the setting that is loaded
-  abbrev pub Under : State L → (Accepted L → Type 0) → Type 0
-  Under blank P = ⊥
-  Under (ready A) P = P A
-  Under (opened A a δ) P = P A
-  Under (keyed A a δ k) P = P A
-
   -- LOAD takes a setting packet. Is body 1 four bytes with the value q? Is the degree even and from 4 to 50?
   abbrev pub SizeIs : List ℕ → Type 0
   SizeIs b = (length b ≡ 4) × (number b ≡ M.size)
@@ -86,8 +74,8 @@ module _ {M : Meaning} (L : Lawful M) where
       ++ setting_asks L D
 
   -- the end is then ready
-  abbrev pub LoadLeaves : List ℕ → Output → State L → Type 0
-  LoadLeaves x out s' = (A : Accepted L) × (A.D ≡ poly_of L (body x second)) × (out ≡ wrote []) × (s' ≡ ready A)
+  abbrev pub LoadLeaves : List ℕ → List ℕ → State L → Type 0
+  LoadLeaves x w s' = (A : Accepted L) × (A.D ≡ poly_of L (body x second)) × (w ≡ []) × (s' ≡ ready A)
 
   -- OPEN takes a secret, a number with its high byte first. Is its ideal other than (1)?
   abbrev pub OpensTo : (A : Accepted L) → List ℕ → Type 0
@@ -130,6 +118,15 @@ module _ {M : Meaning} (L : Lawful M) where
   abbrev pub key_asks : State L → ℕ → List Question
   key_asks s room = (Keyed s if_not 37) ∷ (length (offered_key s) ≤ room if_not 35) ∷ []
 
+  -- the questions of an ideal (Q, P)
+  abbrev pub ideal_asks : Accepted L → R L → R L → List Question
+  ideal_asks A Q P =
+      (((1 ≤ len Q) × (len Q ≤ A.m)) if_not 40)
+      ∷ (Monic L Q if_not 41)
+      ∷ (len P < len Q if_not 42)
+      ∷ (Divides r Q (A.D ⊕ ⊖ (P ⊗ P)) if_not 43)
+      ∷ []
+
   -- the packet x is read as the ideal b
   abbrev pub Reads : (A : Accepted L) → List ℕ → Ideals L A → Type 0
   Reads A x b = (b.Q ≡ poly_of L (body x first)) × (b.P ≡ poly_of L (body x second))
@@ -145,25 +142,18 @@ module _ {M : Meaning} (L : Lawful M) where
   abbrev pub OtherKey : (A : Accepted L) → ℕ → List ℕ → Type 0
   OtherKey A δ x = (k : Ideals L A) × KeyIs A δ x k × (k ≢ unit_ideal L A)
 
-  -- the questions that an offer answers by itself: those of the packet, of Q's body and of P's, and of the ideal
-  abbrev pub reader_asks : Accepted L → List ℕ → List Question
-  reader_asks A x =
-      packet_asks 3 4 x
-      ++ body_asks M.size (body x first)
-      ++ body_asks M.size (body x second)
-      ++ ideal_asks L A (poly_of L (body x first)) (poly_of L (body x second))
-
-  -- x passes the reader: none of its questions has the answer no, and it is read as the ideal a, which is other than (1)
-  pub record Passes (A : Accepted L) (x : List ℕ) (a : Ideals L A) : Type 0 where
-    pub asked : Hold (reader_asks A x)
-    pub reads : Reads A x a
-    pub other : a ≢ unit_ideal L A
-
   -- TAKE reads an offer
   abbrev pub offer_asks : State L → List ℕ → List Question
   offer_asks blank x = []
   offer_asks (ready A) x = []
-  offer_asks (opened A a δ) x = reader_asks A x ++ (Other A x if_not 44) ∷ (OtherKey A δ x if_not 45) ∷ []
+  offer_asks (opened A a δ) x =
+      packet_asks 3 4 x
+      ++ body_asks M.size (body x first)
+      ++ body_asks M.size (body x second)
+      ++ ideal_asks A (poly_of L (body x first)) (poly_of L (body x second))
+      ++ (Other A x if_not 44)
+      ∷ (OtherKey A δ x if_not 45)
+      ∷ []
   offer_asks (keyed A a δ k) x = []
 
   abbrev pub take_asks : State L → List ℕ → List Question
@@ -183,20 +173,6 @@ module _ {M : Meaning} (L : Lawful M) where
   closed (opened A a δ) = ready A
   closed (keyed A a δ k) = ready A
 
-  -- FIND gives the place of a number
-  abbrev pub find_asks : State L → List ℕ → List Question
-  find_asks s n = (Loaded s if_not 38) ∷ (((1 ≤ length n) × (length n ≤ 32)) if_not 32) ∷ []
-
-  -- ADD gives the sum of two places
-  abbrev pub sum_asks : State L → Given → Given → List Question
-  sum_asks blank g h = []
-  sum_asks (ready A) g h = place_asks L A g ++ place_asks L A h
-  sum_asks (opened A a δ) g h = place_asks L A g ++ place_asks L A h
-  sum_asks (keyed A a δ k) g h = place_asks L A g ++ place_asks L A h
-
-  abbrev pub add_asks : State L → Given → Given → List Question
-  add_asks s g h = (Loaded s if_not 38) ∷ sum_asks s g h
-
   -- the questions of a call
   abbrev pub questions : State L → Call → List Question
   questions s (load x) = load_asks s x
@@ -205,19 +181,15 @@ module _ {M : Meaning} (L : Lawful M) where
   questions s (take x) = take_asks s x
   questions s (key room) = key_asks s room
   questions s close = []
-  questions s (find n) = find_asks s n
-  questions s (add g h) = add_asks s g h
 
-  -- what an accepted call hands out, and the end that it leaves. Find and add leave it as it is
-  abbrev pub Leaves : State L → Call → Output → State L → Type 0
-  Leaves s (load x) out s' = LoadLeaves x out s'
-  Leaves s («open» n) out s' = (out ≡ wrote (replicate (length n) 0)) × OpenLeaves s n s'
-  Leaves s (tell room) out s' = (out ≡ wrote (offered s)) × (s' ≡ s)
-  Leaves s (take x) out s' = (out ≡ wrote []) × TakeLeaves s x s'
-  Leaves s (key room) out s' = (out ≡ wrote (offered_key s)) × (s' ≡ s)
-  Leaves s close out s' = (out ≡ wrote []) × (s' ≡ closed s)
-  Leaves s (find n) out s' = (z : Given) × Under s (λ A. FindGives L A n z) × (out ≡ gave z) × (s' ≡ s)
-  Leaves s (add g h) out s' = (z : Given) × Under s (λ A. AddGives L A g h z) × (out ≡ gave z) × (s' ≡ s)
+  -- what an accepted call writes, and the end that it leaves
+  abbrev pub Leaves : State L → Call → List ℕ → State L → Type 0
+  Leaves s (load x) w s' = LoadLeaves x w s'
+  Leaves s («open» n) w s' = (w ≡ replicate (length n) 0) × OpenLeaves s n s'
+  Leaves s (tell room) w s' = (w ≡ offered s) × (s' ≡ s)
+  Leaves s (take x) w s' = (w ≡ []) × TakeLeaves s x s'
+  Leaves s (key room) w s' = (w ≡ offered_key s) × (s' ≡ s)
+  Leaves s close w s' = (w ≡ []) × (s' ≡ closed s)
 
   -- a refused call writes nothing, but for the secret's bytes, which are zero on every way out; the end stays as it is
   abbrev pub wiped : Call → List ℕ
@@ -227,20 +199,18 @@ module _ {M : Meaning} (L : Lawful M) where
   wiped (take x) = []
   wiped (key room) = []
   wiped close = []
-  wiped (find n) = []
-  wiped (add g h) = []
 
-  abbrev pub After : State L → Call → Answer → Output → State L → Type 0
-  After s c accepted out s' = Leaves s c out s'
-  After s c (refused n) out s' = (out ≡ wrote (wiped c)) × (s' ≡ s)
+  abbrev pub After : State L → Call → Answer → List ℕ → State L → Type 0
+  After s c accepted w s' = Leaves s c w s'
+  After s c (refused n) w s' = (w ≡ wiped c) × (s' ≡ s)
 
-  -- the end s does the call c: it answers ans, hands out out, and is s' then
-  pub record Does (s : State L) (c : Call) (ans : Answer) (out : Output) (s' : State L) : Type 0 where
+  -- the end s does the call c: it answers ans, writes w, and is s' then
+  pub record Does (s : State L) (c : Call) (ans : Answer) (w : List ℕ) (s' : State L) : Type 0 where
     pub answer : Answers (questions s c) ans
-    pub after : After s c ans out s'
+    pub after : After s c ans w s'
 
 -- the rules leave nothing open: every end does every call, and in one way
 abbrev pub Settled : Type 0
 Settled = (M : Meaning) (L : Lawful M) (s : State L) (c : Call)
-    → ((ans : Answer) × (out : Output) × (s' : State L) × Does L s c ans out s')
-    × ((a b : Answer) (out also : Output) (t u : State L) → Does L s c a out t → Does L s c b also u → (a ≡ b) × (out ≡ also) × (t ≡ u))
+    → ((ans : Answer) × (w : List ℕ) × (s' : State L) × Does L s c ans w s')
+    × ((a b : Answer) (w v : List ℕ) (t u : State L) → Does L s c a w t → Does L s c b v u → (a ≡ b) × (w ≡ v) × (t ≡ u))

@@ -1,11 +1,12 @@
--- Places as they are handed in and given out: their codes, their questions, and what find and add give.
-use Rattle.std.specs.Prelude.{◌≡◌, ℕ, ◌+◌, ◌<◌, ◌≤◌, List, [], ◌∷◌, ◌++◌, map, reverse}
+-- Find and add: places handed in and given out. Both leave the end unchanged.
+use Rattle.std.specs.Prelude.{◌≡◌, ℕ, ◌+◌, ◌<◌, ◌≤◌, List, [], ◌∷◌, ◌++◌, map, reverse, length}
 use Rattle.field.specs.Meaning.{Meaning, Lawful}
 use Rattle.algebra.specs.Codes.{Code, code, codes, R}
 use Rattle.ring.proofs.Poly.{poly}
 use Rattle.rules.specs.Questions.{Question, ◌if_not◌}
 use Rattle.rules.specs.Packets.{All, number}
-use Rattle.rules.specs.Settings.{Accepted, setting, ideal_asks}
+use Rattle.rules.specs.Settings.{Accepted, setting}
+use Rattle.rules.specs.Ends.{State, blank, ready, opened, keyed, ideal_asks}
 use Rattle.algebra.specs.Places.{Place, Adds}
 use Rattle.algebra.specs.Lines.{PlaceAt}
 use Rattle.algebra.specs.Codes.{K}
@@ -45,11 +46,29 @@ module _ {M : Meaning} (L : Lawful M) where
       ++ (g.off + (K L).len (poly_from g.Q) ≤ A.m if_not 46)
       ∷ []
 
-  -- the place of a number
+  abbrev pub Loaded : State L → Type 0
+  Loaded blank = ⊥
+  Loaded (ready A) = Unit {0}
+  Loaded (opened A a δ) = Unit {0}
+  Loaded (keyed A a δ k) = Unit {0}
+
+  -- FIND gives the place of a number
+  abbrev pub find_asks : State L → List ℕ → List Question
+  find_asks s n = (Loaded s if_not 38) ∷ (((1 ≤ length n) × (length n ≤ 32)) if_not 32) ∷ []
+
   abbrev pub FindGives : Accepted L → List ℕ → Given → Type 0
   FindGives A n z = (p : Places A) × PlaceAt (K L) (setting L A) (number n) p × Shows A p z
 
-  -- the sum of two places
+  -- ADD gives the sum of two places
+  abbrev pub sum_asks : State L → Given → Given → List Question
+  sum_asks blank g h = []
+  sum_asks (ready A) g h = place_asks A g ++ place_asks A h
+  sum_asks (opened A a δ) g h = place_asks A g ++ place_asks A h
+  sum_asks (keyed A a δ k) g h = place_asks A g ++ place_asks A h
+
+  abbrev pub add_asks : State L → Given → Given → List Question
+  add_asks s g h = (Loaded s if_not 38) ∷ sum_asks s g h
+
   abbrev pub Add : (A : Accepted L) → Places A → Places A → Places A → Type 0
   Add A p q x = Adds (K L) (setting L A) p.ideal p.off q.ideal q.off x.ideal x.off
 

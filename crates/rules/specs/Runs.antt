@@ -1,11 +1,11 @@
 -- Runs of two ends, openings in them, and what agreement says.
-use Rattle.std.specs.Prelude.{◌≡◌, ℕ, suc, ◌+◌, ◌*◌, ◌<◌, ◌≤◌, ◌≢◌, List}
+use Rattle.std.specs.Prelude.{◌≡◌, ℕ, suc, ◌+◌, ◌*◌, ◌<◌, ◌≤◌, ◌≢◌, List, ◌++◌}
 use Rattle.field.specs.Meaning.{Meaning, Lawful}
-use Rattle.rules.specs.Questions.{Answer, accepted, refused}
+use Rattle.rules.specs.Questions.{Answer, accepted, refused, Answers}
 use Rattle.rules.specs.Packets.{number}
 use Rattle.rules.specs.Settings.{Accepted, setting, Ideals, unit_ideal, Closest, offer}
-use Rattle.rules.specs.Places.{Given, Places, Shows}
-use Rattle.rules.specs.Ends.{State, ready, Call, «open», tell, take, key, close, find, add, Output, wrote, gave, Open, Under, Passes, Does}
+use Rattle.rules.specs.Ends.{State, ready, Call, «open», tell, take, key, close, Open, Does}
+use Rattle.rules.specs.Places.{Given, Places, Shows, place_asks, AddGives}
 use Rattle.algebra.specs.Lines.{PlaceAt}
 use Rattle.algebra.specs.Codes.{K}
 
@@ -13,12 +13,12 @@ pub data Side : Type 0 where
   left : Side
   right : Side
 
--- a call at a side, its answer, and what it hands out
+-- a call at a side, its answer, and the bytes written
 pub record Event : Type 0 where
   pub side : Side
   pub call : Call
   pub answer : Answer
-  pub output : Output
+  pub written : List ℕ
 
 module _ {M : Meaning} (L : Lawful M) (A : Accepted L) where
   -- a run: event 0, event 1, and so on below the count, at two ends that are newly loaded with one setting.
@@ -29,7 +29,7 @@ module _ {M : Meaning} (L : Lawful M) (A : Accepted L) where
     pub end : Side → ℕ → State L
     pub starts : (σ : Side) → end σ 0 ≡ ready A
     pub moves : (i : ℕ) → i < count
-        → Does L (end (event i).side i) (event i).call (event i).answer (event i).output (end (event i).side (suc i))
+        → Does L (end (event i).side i) (event i).call (event i).answer (event i).written (end (event i).side (suc i))
     pub rests : (i : ℕ) (σ : Side) → i < count → (event i).side ≢ σ → end σ (suc i) ≡ end σ i
 
   module _ (run : Run) (σ : Side) where
@@ -56,7 +56,7 @@ module _ {M : Meaning} (L : Lawful M) (A : Accepted L) where
       pub room : ℕ
       pub within : Within b when
       pub tells : Calls when (tell room) accepted
-      pub says : (run.event when).output ≡ wrote x
+      pub wrote : (run.event when).written ≡ x
 
     -- event i takes x while the end is open, in the opening, and answers ans
     pub record Takes (b i : ℕ) (x : List ℕ) (ans : Answer) : Type 0 where
@@ -66,15 +66,14 @@ module _ {M : Meaning} (L : Lawful M) (A : Accepted L) where
 
     -- every accepted key call in the opening writes the offer of k
     abbrev pub Keys : ℕ → Ideals L A → Type 0
-    Keys b k = (i room : ℕ) → Within b i → Calls i (key room) accepted → (run.event i).output ≡ wrote (offer L A k)
+    Keys b k = (i room : ℕ) → Within b i → Calls i (key room) accepted → (run.event i).written ≡ offer L A k
 
-  -- offers: an opening with the secret number n tells nothing but the offer of the ideal closest to the left of n, and that
-  -- passes the reader
+  -- (a) an opening with the secret number n tells nothing but the offer of the ideal closest to the left of n
   abbrev pub OffersOf : Run → Type 0
   OffersOf run = (σ : Side) (b : ℕ) (secret x : List ℕ) → Opening run σ b secret → Told run σ b x
-      → (a : Ideals L A) × (δ : ℕ) × Closest L A (number secret) a δ × (x ≡ offer L A a) × Passes L A x a
+      → (a : Ideals L A) × (δ : ℕ) × Closest L A (number secret) a δ × (x ≡ offer L A a)
 
-  -- an exchange: an opening at each side, with the own distances δ and ε, and a take at each side, made while that end is open, of
+  -- (b) an opening at each side, with the own distances δ and ε, and a take at each side, made while that end is open, of
   -- bytes that the other opening told
   pub record Exchange (run : Run) (b c δ ε : ℕ) : Type 0 where
     pub secret : List ℕ
@@ -94,37 +93,28 @@ module _ {M : Meaning} (L : Lawful M) (A : Accepted L) where
     pub takes : Takes run left b when told' ans
     pub takes' : Takes run right c when' told ans'
 
-  -- agreement: with k the ideal closest to the left of δ × ε: if k is not (1), both takes are accepted and every accepted key
+  -- then, with k the ideal closest to the left of δ × ε: if k is not (1), both takes are accepted and every accepted key
   -- call in those openings writes k's offer; if k is (1), both takes answer 45
   abbrev pub Meets : Run → Type 0
   Meets run = (b c δ ε : ℕ) (e : Exchange run b c δ ε) (k : Ideals L A) (far : ℕ) → Closest L A (δ * ε) k far
       → (k ≢ unit_ideal L A → (e.ans ≡ accepted) × (e.ans' ≡ accepted) × Keys run left b k × Keys run right c k)
       × (k ≡ unit_ideal L A → (e.ans ≡ refused 45) × (e.ans' ≡ refused 45))
 
-  -- the place of the number t is given out
-  abbrev pub Gives : Output → ℕ → Type 0
-  Gives out t = (z : Given) × (p : Places L A) × (out ≡ gave z) × PlaceAt (K L) (setting L A) t p × Shows L A p z
+  -- (c) add refuses neither place s nor place t, gives a place for them, and gives nothing but place s + t
+  pub record Sums (s t : ℕ) (g h : Given) : Type 0 where
+    pub asked : Answers (place_asks L A g ++ place_asks L A h) accepted
+    pub some : (z : Given) × AddGives L A g h z
+    pub only : (z : Given) → AddGives L A g h z → (x : Places L A) × PlaceAt (K L) (setting L A) (s + t) x × Shows L A x z
 
-  -- before event i the end at the side σ has the setting A loaded
-  abbrev pub Stands : Run → Side → ℕ → Type 0
-  Stands run σ i = Under L (run.end σ i) (λ B. B ≡ A)
-
-  -- addition of places: adding place s and place t is never refused, and gives place s + t
-  abbrev pub SumsOf : Run → Type 0
-  SumsOf run = (σ : Side) (i s t : ℕ) (g h : Given) (ans : Answer) (p q : Places L A) → Calls run σ i (add g h) ans → Stands run σ i
-      → PlaceAt (K L) (setting L A) s p → Shows L A p g → PlaceAt (K L) (setting L A) t q → Shows L A q h
-      → (ans ≡ accepted) × Gives (run.event i).output (s + t)
-
-  -- and every accepted find gives the place of its number
-  abbrev pub FindsOf : Run → Type 0
-  FindsOf run = (σ : Side) (i : ℕ) (n : List ℕ) → Calls run σ i (find n) accepted → Stands run σ i → Gives (run.event i).output (number n)
+  abbrev pub SumsOf : Type 0
+  SumsOf = (s t : ℕ) (p q : Places L A) (g h : Given) → PlaceAt (K L) (setting L A) s p → PlaceAt (K L) (setting L A) t q
+      → Shows L A p g → Shows L A q h → Sums s t g h
 
 -- for every lawful field, every accepted setting and every run
 pub record Agrees {M : Meaning} (L : Lawful M) (A : Accepted L) : Type 0 where
-  pub offers : (run : Run L A) → OffersOf L A run
-  pub meets : (run : Run L A) → Meets L A run
-  pub sums : (run : Run L A) → SumsOf L A run
-  pub finds : (run : Run L A) → FindsOf L A run
+  pub a : (run : Run L A) → OffersOf L A run
+  pub b : (run : Run L A) → Meets L A run
+  pub c : SumsOf L A
 
 abbrev pub Agreement : Type 0
 Agreement = (M : Meaning) (L : Lawful M) (A : Accepted L) → Agrees L A

@@ -1,5 +1,5 @@
 -- Settings over a lawful meaning, the ideal closest to the left, and polynomials as bytes.
-use Rattle.std.specs.Prelude.{◌≡◌, ℕ, ◌+◌, ◌≤◌, List, [], ◌∷◌, map, reverse, ◌<◌}
+use Rattle.std.specs.Prelude.{◌≡◌, ℕ, ◌+◌, ◌≤◌, List, [], ◌∷◌, map, reverse}
 use Rattle.field.specs.Meaning.{Meaning, Lawful}
 use Rattle.algebra.specs.Codes.{Code, code, codes, R, K}
 use Rattle.ring.proofs.Poly.{poly}
@@ -82,11 +82,7 @@ module _ {M : Meaning} (L : Lawful M) where
   setting_packet D = packet 1 2 (four M.size) (body_of D)
 
 module _ {M : Meaning} (L : Lawful M) (A : Accepted L) where
-  infixl 60 ◌⊕◌
-  infixl 70 ◌⊗◌
-  infix 80 ⊖◌
-  open K L use {r, len}
-  open (K L).r use {◌⊕◌, ⊖◌, ◌⊗◌}
+  open K L use {r}
 
   abbrev pub Ideals : Type 0
   Ideals = Ideal r A.D
@@ -102,15 +98,6 @@ module _ {M : Meaning} (L : Lawful M) (A : Accepted L) where
   -- k is the ideal of the multiple of a, at offset 0, by n
   abbrev pub MultipleOf : ℕ → Ideals → Ideals → Type 0
   MultipleOf n a k = (f : ℕ) × Times (K L) (setting L A) (place (K L) (setting L A) a 0) n (place (K L) (setting L A) k f)
-
-  -- the questions of an ideal (Q, P)
-  abbrev pub ideal_asks : R L → R L → List Question
-  ideal_asks Q P =
-      (((1 ≤ len Q) × (len Q ≤ A.m)) if_not 40)
-      ∷ (Monic L Q if_not 41)
-      ∷ (len P < len Q if_not 42)
-      ∷ (Divides r Q (A.D ⊕ ⊖ (P ⊗ P)) if_not 43)
-      ∷ []
 
   -- the offer of an ideal
   abbrev pub offer : Ideals → List ℕ

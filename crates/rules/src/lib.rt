@@ -2,12 +2,11 @@
 //
 // Under specs/: `Questions` has questions and the first one with the answer no, `Packets` packets and bodies as bytes, `Settings` accepted
 // settings, `Ends` the calls of an end with their questions and what they leave, `Places` find and add, `Runs` what two ends do
-// between them and what agreement says, `Worked` one small setting in numbers and bytes.
+// between them and what agreement says.
 #![tactic(auto)]
 
 ghost use Rattle.rules.specs.Ends.{Settled};
 ghost use Rattle.rules.specs.Runs.{Agreement};
-ghost use Rattle.rules.specs.Worked.{ExampleExchange, WorkedCases};
 
 /// Names the theorem: two ends that do as the rules say agree.
 pub fn agreement_stands() -> u8
@@ -19,20 +18,6 @@ pub fn agreement_stands() -> u8
 /// Names the theorem: the rules give every call at every end one answer.
 pub fn rules_settle() -> u8
     ensures { Settled }
-{
-    0
-}
-
-/// Names the worked cases: over 5 with D = x⁴ + x + 1, the line, products, calls of ends and their bytes; and extensions of 3.
-pub fn worked_cases() -> u8
-    ensures { WorkedCases }
-{
-    0
-}
-
-/// Names the example: a run in which two ends take each other's offers and write one key.
-pub fn example_exchange() -> u8
-    ensures { ExampleExchange }
 {
     0
 }

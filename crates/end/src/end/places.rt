@@ -5,7 +5,7 @@ ghost use Rattle.rules.specs.Packets.{All};
 ghost use Rattle.packet.specs.Polynomials.{codes_down};
 ghost use Rattle.end.specs.Modes.{InLoaded, Asked};
 ghost use Rattle.end.specs.Results.{OneTo32};
-ghost use Rattle.end.specs.Places.{PlaceRead, Finds, FindsAt, Adds, AddsOnLine};
+ghost use Rattle.end.specs.Places.{PlaceRead, Finds, Adds, AddsOnLine};
 
 use super::open::is_number;
 use super::{End, GivenPlace};
@@ -45,8 +45,7 @@ impl<F: Field> End<F> {
     // Place n of the setting that is loaded.
     fn find_place(&self, number: &[u8]) -> Result<Place, Refusal>
         requires { InLoaded self.now.mode }
-        ensures follows { Finds (F.meaning self.now.field) self.now number.now result }
-        ensures place { FindsAt (F.meaning self.now.field) self.now number.now result }
+        ensures finds { Finds (F.meaning self.now.field) self.now number.now result }
         ensures sized { Asked (OneTo32 number.now) WrongSecretLength result }
     {
         let setting = self.mode.setting()?;
@@ -59,7 +58,7 @@ impl<F: Field> End<F> {
     // The sum of two places of the setting that is loaded.
     fn add_places(&self, first: &GivenPlace, second: &GivenPlace) -> Result<Place, Refusal>
         requires { InLoaded self.now.mode }
-        ensures follows { Adds (F.meaning self.now.field) self.now first.now second.now result }
+        ensures adds { Adds (F.meaning self.now.field) self.now first.now second.now result }
         ensures line { AddsOnLine (F.meaning self.now.field) self.now first.now second.now result }
     {
         let setting = self.mode.setting()?;
@@ -70,8 +69,7 @@ impl<F: Field> End<F> {
 
     // Place n, where `number` is n with its high byte first. 38: is a setting loaded? 32: has the number 1 to 32 bytes?
     pub fn find(&self, number: &[u8]) -> Result<Place, Refusal>
-        ensures follows { Finds (F.meaning self.now.field) self.now number.now result }
-        ensures place { FindsAt (F.meaning self.now.field) self.now number.now result }
+        ensures finds { Finds (F.meaning self.now.field) self.now number.now result }
         ensures asked { Asked (InLoaded self.now.mode) NotLoaded result }
         ensures sized { InLoaded self.now.mode → Asked (OneTo32 number.now) WrongSecretLength result }
     {
@@ -81,7 +79,7 @@ impl<F: Field> End<F> {
 
     // The sum of two places. 38: is a setting loaded? Then the questions of the first place, and those of the second.
     pub fn add(&self, first: &GivenPlace, second: &GivenPlace) -> Result<Place, Refusal>
-        ensures follows { Adds (F.meaning self.now.field) self.now first.now second.now result }
+        ensures adds { Adds (F.meaning self.now.field) self.now first.now second.now result }
         ensures line { AddsOnLine (F.meaning self.now.field) self.now first.now second.now result }
         ensures asked { Asked (InLoaded self.now.mode) NotLoaded result }
     {

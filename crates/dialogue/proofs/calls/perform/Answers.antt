@@ -1,7 +1,6 @@
 use Rattle.std.proofs.Common.{◌≡◌, ℕ, List, length, sym, refl, ap, ◌∙◌, arith}
 use Rattle.std.proofs.lemmas.List.{with_items_is}
-use Rattle.rules.specs.Questions.{answer_of}
-use Rattle.rules.specs.Ends.{load, «open», tell, take, key, find, wrote}
+use Rattle.rules.specs.Ends.{load, «open», tell, take, key}
 use Rattle.end.specs.Results.{written_to}
 use Rattle.dialogue.specs.Scripts.{call_of}
 use Rattle.dialogue.proofs.Steps.{respelled}
@@ -10,9 +9,9 @@ use Rattle.dialogue.proofs.calls.perform.Goals as goal
 pub returns-in-Load : goal.returns-in-Load
 returns-in-Load g c = record {
   event = (
-    c.silent.ensures.side,
-    respelled (g.F.Field.meaning c.args.end.now.field) c.args.end.now c.load.new.self _ _ _ _ _ _ (ap call_of c.in-Load.is ∙ ap load (sym c.deref.ensures.value))
-        (ap answer_of c.silent.ensures.answer) c.silent.ensures.output c.load.ensures.follows,
+    refl,
+    respelled (g.F.Field.meaning c.args.end.now.field) c.args.end.now c.load.new.self _ _ _ _ _ _ (ap call_of c.in-Load.is ∙ ap load (sym c.deref.ensures.value)) refl c.new.ensures.items
+        c.load.ensures.follows,
   );
   over = c.load.ensures.rest.field;
 }
@@ -20,41 +19,11 @@ returns-in-Load g c = record {
 pub returns-in-Take : goal.returns-in-Take
 returns-in-Take g c = record {
   event = (
-    c.silent-in-Take.ensures.side,
-    respelled (g.F.Field.meaning c.args.end.now.field) c.args.end.now c.take.new.self _ _ _ _ _ _ (ap call_of c.in-Take.is ∙ ap take (sym c.deref-in-Take.ensures.value))
-        (ap answer_of c.silent-in-Take.ensures.answer) c.silent-in-Take.ensures.output c.take.ensures.follows,
+    refl,
+    respelled (g.F.Field.meaning c.args.end.now.field) c.args.end.now c.take.new.self _ _ _ _ _ _ (ap call_of c.in-Take.is ∙ ap take (sym c.deref-in-Take.ensures.value)) refl c.new-in-Take.ensures.items
+        c.take.ensures.follows,
   );
   over = c.take.ensures.rest.field;
-}
-
-pub returns-in-Close : goal.returns-in-Close
-returns-in-Close g c = record {
-  event = (
-    c.silent-in-Close.ensures.side,
-    respelled (g.F.Field.meaning c.args.end.now.field) c.args.end.now c.close.new.self _ _ _ _ _ _ (ap call_of c.in-Close.is)
-        (ap answer_of c.silent-in-Close.ensures.answer) c.silent-in-Close.ensures.output c.close.ensures.follows,
-  );
-  over = c.close.ensures.over;
-}
-
-pub returns-in-Find : goal.returns-in-Find
-returns-in-Find g c = record {
-  event = (
-    c.gave.ensures.side,
-    respelled (g.F.Field.meaning c.args.end.now.field) c.args.end.now c.args.end.now _ _ _ _ _ _ (ap call_of c.in-Find.is ∙ ap find (sym c.deref-in-Find.ensures.value))
-        c.gave.ensures.answer c.gave.ensures.output c.find.ensures.follows,
-  );
-  over = refl;
-}
-
-pub returns-in-Add : goal.returns-in-Add
-returns-in-Add g c = record {
-  event = (
-    c.gave-in-Add.ensures.side,
-    respelled (g.F.Field.meaning c.args.end.now.field) c.args.end.now c.args.end.now _ _ _ _ _ _ (ap call_of c.in-Add.is)
-        c.gave-in-Add.ensures.answer c.gave-in-Add.ensures.output c.add.ensures.follows,
-  );
-  over = refl;
 }
 
 pub returns-in-Open : goal.returns-in-Open
@@ -65,7 +34,7 @@ returns-in-Open g c =
       event = (
         refl,
         respelled (g.F.Field.meaning c.args.end.now.field) c.args.end.now c.open-answer.new.self _ _ _ _ _ _ (ap call_of c.in-Open.is ∙ ap «open» (sym d.value)) refl
-            (ap wrote (with_items_is c.in-Open.secret c.open-answer.new.secret whole)) c.open-answer.ensures.follows,
+            (with_items_is c.in-Open.secret c.open-answer.new.secret whole) c.open-answer.ensures.follows,
       );
       over = c.open-answer.ensures.rest.field;
     }
@@ -79,7 +48,7 @@ returns-in_ok-out-in-Tell g c =
       event = (
         c.wrote.ensures.side,
         respelled (g.F.Field.meaning c.args.end.now.field) c.args.end.now c.args.end.now _ _ _ _ _ _ (ap call_of c.in-Tell.is ∙ ap tell room) c.wrote.ensures.answer
-            (c.wrote.ensures.output ∙ ap (λ (z : List ℕ). wrote (written_to z c.tell.result)) (with_items_is c.in_ok-out-in-Tell.out c.tell.new.out whole))
+            (c.wrote.ensures.written ∙ ap (λ (z : List ℕ). written_to z c.tell.result) (with_items_is c.in_ok-out-in-Tell.out c.tell.new.out whole))
             c.tell.ensures.follows,
       );
       over = refl;
@@ -94,7 +63,7 @@ returns-in_ok-out-in-Key g c =
       event = (
         c.wrote-in-Key.ensures.side,
         respelled (g.F.Field.meaning c.args.end.now.field) c.args.end.now c.args.end.now _ _ _ _ _ _ (ap call_of c.in-Key.is ∙ ap key room) c.wrote-in-Key.ensures.answer
-            (c.wrote-in-Key.ensures.output ∙ ap (λ (z : List ℕ). wrote (written_to z c.key.result)) (with_items_is c.in_ok-out-in-Key.out c.key.new.out whole))
+            (c.wrote-in-Key.ensures.written ∙ ap (λ (z : List ℕ). written_to z c.key.result) (with_items_is c.in_ok-out-in-Key.out c.key.new.out whole))
             c.key.ensures.follows,
       );
       over = refl;

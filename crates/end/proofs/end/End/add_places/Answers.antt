@@ -13,7 +13,7 @@ returns-in_err-first g c =
     first_away c.args.self.now c.in_ok-setting.setting c.requires c.in_ok-setting.ensures c.args.first.now c.args.second.now
     c.in_err-first.field-0.0 c.in_err-first.ensures in
     rw (p.1, p.2) (record {
-      follows = adds;
+      adds = adds;
       line = line_accepted c.args.self.now c.args.first.now c.args.second.now c.in_err-first.field-0.0 adds;
     })
 
@@ -25,14 +25,14 @@ returns-in_err-second g c =
     second_away c.args.self.now c.in_ok-setting.setting c.requires c.in_ok-setting.ensures c.args.first.now c.args.second.now
     c.in_ok-first.first c.in_ok-first.ensures c.in_err-second.field-0.0 c.in_err-second.ensures in
     rw (p.1, p.2) (record {
-      follows = adds;
+      adds = adds;
       line = line_accepted c.args.self.now c.args.first.now c.args.second.now c.in_err-second.field-0.0 adds;
     })
 
 pub returns : goal.returns
 returns g c =
     record {
-      follows = sum_made c.args.self.now c.in_ok-setting.setting c.requires c.in_ok-setting.ensures c.args.first.now c.args.second.now
+      adds = sum_made c.args.self.now c.in_ok-setting.setting c.requires c.in_ok-setting.ensures c.args.first.now c.args.second.now
           c.in_ok-first.first c.in_ok-first.ensures c.in_ok-second.second c.in_ok-second.ensures
           c.add.result c.add.ensures.sums;
       line = sum_on_line c.args.self.now c.in_ok-setting.setting c.requires c.in_ok-setting.ensures c.args.first.now c.args.second.now
