@@ -1,6 +1,7 @@
 // The words of a line.
-ghost use Rattle.std.specs.Prelude.{◌≡◌, ℕ, ◌≤◌, List, IfOk, IfErr, MatchOption};
+ghost use Rattle.std.specs.Prelude.{◌≡◌, ℕ, ◌≤◌, ◌⊎◌, List, Err, IfOk, IfErr, MatchOption};
 ghost use Rattle.std.specs.Str.Parse.{IsNumeral, digits_value};
+ghost use Rattle.script.specs.Numbers.{NumberRead};
 ghost use Rattle.script.specs.Wording.{rest_of, HasNoWord, NextWord};
 
 use crate::codes::Codes;
@@ -25,7 +26,7 @@ impl<'a> Words<'a> {
 
     // The next word, if there is one.
     pub fn word(&mut self) -> Option<&'a str>
-        ensures { MatchOption result (HasNoWord (rest_of self.old)) (λ w. NextWord (rest_of self.old) w.now (rest_of self.new)) }
+        ensures { MatchOption result (HasNoWord (rest_of self.old) × (self.new ≡ self.old)) (λ w. NextWord (rest_of self.old) w.now (rest_of self.new)) }
     {
         self.rest.next()
     }
@@ -33,7 +34,7 @@ impl<'a> Words<'a> {
     // The next word as a number of `most` at most.
     pub fn number(&mut self, most: u32) -> Result<u32, Problem>
         ensures small { IfOk result (λ n. n ≤ most) }
-        ensures reads { IfOk result (λ n. (w : List ℕ) × NextWord (rest_of self.old) w (rest_of self.new) × IsNumeral 10 w × (n ≡ digits_value 10 w)) }
+        ensures read { (HasNoWord (rest_of self.old) × (result ≡ Err Problem.MissingNumber) × (self.new ≡ self.old)) ⊎ ((w : List ℕ) × NextWord (rest_of self.old) w (rest_of self.new) × NumberRead most w result) }
     {
         match self.word() {
             None => Err(Problem::MissingNumber),
