@@ -1,11 +1,12 @@
 -- The degree at one infinite place, proved. For α = u + v·y the polynomials plus = u + v·d and minus = u − v·d stand for the values
 -- at the two places; as D − d·d is short, the longer of the two is right, and the norm gives the other. First it is shown that the
 -- norm is 0 for 0 alone, so that the ring of u + v·y has no zero divisors.
-use mathlib.Core.Path.{◌≡◌, refl, sym, ◌∙◌, ap, ap₂}
+use mathlib.Core.Path.{◌≡◌, sym, ◌∙◌, ap, ap₂}
 use mathlib.Core.List.{[], ◌∷◌}
-use mathlib.Core.Logic.{◌≢◌}
+use mathlib.Core.Logic.{◌≢◌, if_pos, if_neg}
 use Prim.Native.Nat.{ℕ, zero, suc, ◌+◌, ◌-◌, ◌≤◌, ◌<◌}
 use native.Mathlib.Omega.{arith}
+use Rattle.std.proofs.lemmas.Grind.{common_steps}
 use native.Mathlib.Decide.{dec_le}
 use Rattle.ring.proofs.Ring.{sub_self→eq}
 use Rattle.ring.proofs.Quote.{quote, auto}
@@ -14,17 +15,7 @@ use Rattle.ring.proofs.PolyRing.{PolyRing}
 use Rattle.ring.proofs.Order.{O, mk, order, conj, norm, norm_mul, times_comm}
 use Rattle.ring.proofs.Lengths as L
 use Rattle.algebra.specs.Settings.{Setting}
-use Rattle.algebra.specs.Degrees.{Degree, either_of, plus_part, minus_part, top, bot}
-
-either_yes : {A : Type 0} (t : Dec A) (x y : ℕ) → A → either_of t x y ≡ x
-unfolding either_of
-either_yes (yes _) x y h = refl
-either_yes (no g) x y h = absurd (g h)
-
-either_no : {A : Type 0} (t : Dec A) (x y : ℕ) → ¬ A → either_of t x y ≡ y
-unfolding either_of
-either_no (yes g) x y h = absurd (h g)
-either_no (no _) x y h = refl
+use Rattle.algebra.specs.Degrees.{Degree, plus_part, minus_part, top, bot}
 
 module _ {C R : Type 0} (K : PolyRing C R) (S : Setting K) where
   infixl 60 ◌⊕◌
@@ -90,9 +81,7 @@ module _ {C R : Type 0} (K : PolyRing C R) (S : Setting K) where
       (sym (norm_mul K.r D a b) ∙ ap N e ∙ auto K.r (D ∷ []) (search quote depth 20) tt)
 
   pub conj_alive : (a : O R) → a ≢ nil → bar a ≢ nil
-  conj_alive a na e = norm_alive a na
-      (auto K.r (D ∷ a.u ∷ a.v ∷ []) {y = N (bar a)} (search quote depth 20) tt
-      ∙ ap N e ∙ auto K.r (D ∷ []) (search quote depth 20) tt)
+  conj_alive = grind (arith, common_steps)
 
   -- the two places, and the small difference D − d²
   abbrev E : R
@@ -206,7 +195,7 @@ module _ {C R : Type 0} (K : PolyRing C R) (S : Setting K) where
 
   degree_plus : (a : O R) → len (minus a) ≤ len (plus a) → (top K S) a + 1 ≡ len (plus a) + (bot K S) a
   unfolding top bot
-  degree_plus a h = omega (arith, either_yes (test a) (len (plus a)) (len (N a)) h, either_yes (test a) 1 (len (minus a)) h)
+  degree_plus a h = omega (arith, if_pos (test a) h (len (plus a)) (len (N a)), if_pos (test a) h 1 (len (minus a)))
 
   degree_minus : (a : O R) → a ≢ nil → len (plus a) ≤ len (minus a) → (top K S) a + len (minus a) ≡ len (N a) + (bot K S) a
   unfolding top bot
@@ -219,10 +208,10 @@ module _ {C R : Type 0} (K : PolyRing C R) (S : Setting K) where
           arith,
           degree_plus a g,
           ap len (norm_parts a),
-          either_yes (test a) 1 (len (minus a)) g,
+          if_pos (test a) g 1 (len (minus a)),
           (L.lead K (plus a) (minus a) (minus a) (plus a) (⊖ X a a) n1 (omega arith) g h x).0,
         )
-    | no g ↦ omega (arith, either_no (test a) (len (plus a)) (len (N a)) g, either_no (test a) 1 (len (minus a)) g)
+    | no g ↦ omega (arith, if_neg (test a) g (len (plus a)) (len (N a)), if_neg (test a) g 1 (len (minus a)))
   ]
 
   -- the degree of a product

@@ -17,8 +17,9 @@ use Rattle.algebra.specs.Codes.{code, ring_c, zero_c?, R, K}
 use Rattle.algebra.specs.Settings.{Setting}
 use Rattle.algebra.specs.Ideals.{one}
 use Rattle.algebra.specs.Places.{reduced, reduce}
+use Rattle.std.specs.List.{AllByRecursion}
 use Rattle.algebra.specs.Lines.{start}
-use Rattle.algebra.specs.Worked.{Written, ideal, Case, line_at, place_at, sum_to, written, Shows, Holds, AllHold, Sample, unit, i₁, i₂, i₃, i₄, i₅, i₆, i₇, line_cases, product_cases, place_cases, cases, WorkedCases}
+use Rattle.algebra.specs.Worked.{Written, ideal, Case, line_at, place_at, sum_to, written, Shows, Holds, Sample, unit, i₁, i₂, i₃, i₄, i₅, i₆, i₇, line_cases, product_cases, place_cases, cases, WorkedCases}
 use Rattle.algebra.proofs.Settings.{setting_by}
 use Rattle.algebra.proofs.PlaceTheorems.{sums_on_line}
 use Rattle.algebra.proofs.Written.{Form, Turn, Merge, by_numbers, part, form_left, form_right, form_ideal, form_shows, turn_left, turn_right, turn_is, stretch_left, stretch_right, stretch, merge_left, merge_right, merge_whole, merge_case}
@@ -113,7 +114,7 @@ module _ (L : Lawful (prime_meaning 5)) where
   unfolding code ring_c zero_c? norm poly_ring Polynomials add_p neg_p mul_p add_l neg_l scale_l mul_l sum_mod opposite_mod product_mod ℕ_discrete dec_lt
   tested = refl
 
-  lines : AllHold L S line_cases
+  lines : AllByRecursion (Holds L S) line_cases
   lines = ((one (K L) S, unit_shows, start), stretch L S turns 0 0 unit (one (K L) S) start unit_shows tested)
 
   -- the products
@@ -134,7 +135,7 @@ module _ (L : Lawful (prime_meaning 5)) where
   unfolding code ring_c zero_c? norm poly_ring Polynomials add_p neg_p mul_p add_l neg_l scale_l mul_l sum_mod opposite_mod product_mod ℕ_discrete dec_lt
   formed = refl
 
-  products : AllHold L S product_cases
+  products : AllByRecursion (Holds L S) product_cases
   unfolding code ring_c zero_c? norm poly_ring Polynomials add_p neg_p mul_p add_l neg_l scale_l mul_l sum_mod opposite_mod product_mod ℕ_discrete dec_lt
   products = (
     merge_case L S i₁ i₂ (0 ∷ 1 ∷ 4 ∷ 1 ∷ []) (4 ∷ 4 ∷ 2 ∷ 1 ∷ []) merge₁₂ tested₁₂ i₄
@@ -185,7 +186,7 @@ module _ (L : Lawful (prime_meaning 5)) where
   unfolding code ring_c zero_c? norm poly_ring ℕ_discrete dec_lt
   place₁₀ = on_line 8 9 10 1 1 unit lines.1.1.1.1.1.1.1.1.0 refl refl (omega arith)
 
-  places : AllHold L S place_cases
+  places : AllByRecursion (Holds L S) place_cases
   places = (
     place₁,
     (
@@ -211,11 +212,11 @@ module _ (L : Lawful (prime_meaning 5)) where
       sum a b c s t f g h x y z =
           (x.0, x.1, (y.0, y.1, (z.0, z.1, (sums_on_line (K L) S).reaches s t _ _ _ x.2 y.2 z.2)))
 
-  all_append : (cs ds : List Case) → AllHold L S cs → AllHold L S ds → AllHold L S (cs ++ ds)
+  all_append : (cs ds : List Case) → AllByRecursion (Holds L S) cs → AllByRecursion (Holds L S) ds → AllByRecursion (Holds L S) (cs ++ ds)
   all_append [] ds h g = g
   all_append (c ∷ cs) ds h g = (h.0, all_append cs ds h.1 g)
 
-  pub worked : (s : Sample L) × AllHold L s.setting cases
+  pub worked : (s : Sample L) × AllByRecursion (Holds L s.setting) cases
   worked = (
     record { setting = S; D_is = refl; d_is = refl; m_is = refl },
     all_append line_cases (product_cases ++ place_cases) lines (all_append product_cases place_cases products places),

@@ -18,7 +18,7 @@ use Rattle.algebra.proofs.Sites.{O_zero?, plain_alive}
 use Rattle.algebra.proofs.Unique.{ideal_path}
 use Rattle.algebra.proofs.Step.{standard-⊆, standard-⊇}
 use Rattle.algebra.specs.Settings.{Setting}
-use Rattle.algebra.specs.Ideals.{In, Ideal, I, Standard, StandardForm}
+use Rattle.algebra.specs.Ideals.{Ideal, I, Standard, StandardForm}
 use Rattle.algebra.specs.Products.{Product}
 use Rattle.algebra.specs.Steps.{StepTo}
 use Rattle.algebra.specs.Places.{Reduces, reduced, reduce, Walks, stop, walk, Adds}
@@ -53,8 +53,8 @@ module _ {C R : Type 0} (K : PolyRing C R) (S : Setting K) where
 
   pub standard_form_unique : (Q P Q' P' : R) (b c : Ideal r D) → Q ≡ Q' → P ≡ P' → StandardForm K S Q P b → StandardForm K S Q' P' c → b ≡ c
   standard_form_unique Q P Q' P' b c e_q e_p ν μ = standard_unique b c ν.standard μ.standard
-      (λ ζ h. standard-⊆ K S Q' P' c μ ζ (subst (λ x. In r x P' ζ) e_q (subst (λ x. In r Q x ζ) e_p (standard-⊇ K S Q P b ν ζ h))))
-      (λ ζ h. standard-⊆ K S Q P b ν ζ (subst (λ x. In r x P ζ) (sym e_q) (subst (λ x. In r Q' x ζ) (sym e_p) (standard-⊇ K S Q' P' c μ ζ h))))
+      (λ ζ h. standard-⊆ K S Q' P' c μ ζ (rw (sym e_q, sym e_p) (standard-⊇ K S Q P b ν ζ h)))
+      (λ ζ h. standard-⊆ K S Q P b ν ζ (rw (e_q, e_p) (standard-⊇ K S Q' P' c μ ζ h)))
 
   -- the step, of every ideal
   pub step_fixed : {a b c : Ideal r D} {f g : ℕ} → StepTo K S a b f → StepTo K S a c g → (b ≡ c) × (f ≡ g)

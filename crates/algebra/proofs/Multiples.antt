@@ -58,4 +58,4 @@ module _ {C R : Type 0} (K : PolyRing C R) (S : Setting K) where
       → (x ≡ y) × PlaceAt K S (δ * δ') x
   times_meet {δ} {δ'} a b x y π ρ τ υ =
       let ξ = place_times ρ τ in
-      (place_unique K S ξ (subst (λ t. PlaceAt K S t y) (mul_comm δ' δ) (place_times π υ)), ξ)
+      (place_unique K S ξ (rw (mul_comm δ δ') (place_times π υ)), ξ)

@@ -24,6 +24,10 @@ module _ {R : Type 0} (r : CommRing R) where
   infix 80 ⊖◌
   open r use {𝟘, 𝟙, ◌⊕◌, ⊖◌, ◌⊗◌}
 
+  -- the multipliers of Qa, Qb and p from those of two greatest common divisors
+  pub joined : (s g u y x z Qa Qb p : R) → s ≡ u ⊗ g ⊕ y ⊗ p → g ≡ x ⊗ Qa ⊕ z ⊗ Qb → s ≡ u ⊗ x ⊗ Qa ⊕ u ⊗ z ⊗ Qb ⊕ y ⊗ p
+  joined s g u y x z Qa Qb p h e = by_hyp₂ r 𝟙 h u e (auto r (s ∷ g ∷ u ∷ y ∷ x ∷ z ∷ Qa ∷ Qb ∷ p ∷ []) (search quote depth 20) tt)
+
   -- the same with s divided out: Qa = A s, Qb = B s, Pa + Pb = E s, Pa Pb + D = s G
   module _ (D s A B E G Ca Cb X Y Z Pa Pb Pc : R)
       (one : X ⊗ A ⊕ Z ⊗ B ⊕ Y ⊗ E ≡ 𝟙)
@@ -191,14 +195,11 @@ module _ {C R : Type 0} (K : PolyRing C R) (S : Setting K) where
         h.x ⊗ g.x,
         h.y,
         h.x ⊗ g.y,
-        joined h.g g.g h.x h.y g.x g.y a.Q b.Q (a.P ⊕ b.P) h.is g.is,
+        joined r h.g g.g h.x h.y g.x g.y a.Q b.Q (a.P ⊕ b.P) h.is g.is,
         divides_trans K h.g g.g a.Q h.left g.left,
         divides_trans K h.g g.g b.Q h.left g.right,
         h.right,
       )
-    where
-      joined : (g' g x' y' x y Qa Qb p : R) → g' ≡ x' ⊗ g ⊕ y' ⊗ p → g ≡ x ⊗ Qa ⊕ y ⊗ Qb → g' ≡ x' ⊗ x ⊗ Qa ⊕ x' ⊗ y ⊗ Qb ⊕ y' ⊗ p
-      joined g' g x' y' x y Qa Qb p h e = by_hyp₂ r 𝟙 h x' e (auto r (g' ∷ g ∷ x' ∷ y' ∷ x ∷ y ∷ Qa ∷ Qb ∷ p ∷ []) (search quote depth 20) tt)
 
   -- so every two ideals have a product
   pub product : (a b : Ideal r D) → (s : R) × (Qc : R) × (Pc : R) × Product K S a b s Qc Pc

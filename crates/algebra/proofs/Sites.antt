@@ -2,6 +2,7 @@
 -- degrees of α and β. It is an equivalence, and products of sites are commutative and associative up to it, with (1) neutral.
 use mathlib.Core.Path.{◌≡◌, refl, sym, ap, subst}
 use mathlib.Core.Logic.{◌≢◌}
+use mathlib.Core.Logic.Dec
 use mathlib.Core.List.{[], ◌∷◌}
 use Prim.Native.Nat.{ℕ, zero, suc, ◌+◌, ◌*◌}
 use native.Mathlib.Nat.{zero-mul, suc-mul}
@@ -105,8 +106,8 @@ module _ {C R : Type 0} (K : PolyRing C R) (S : Setting K) where
 
   pub ⊙-one : (p : Site) → at one 0 ⊙ p ~ p
   ⊙-one p = ~-same (at one 0 ⊙ p) p
-      (prod_fold (order r D) (I r one) p.set p.set (λ x y ζ hx hy e. subst p.set (sym e) (p.plus_in x y hx hy))
-      (λ i j ζ hi hj e. subst p.set (sym e) (p.times_in i j hj)))
+      (prod_fold (order r D) (I r one) p.set p.set (λ x y ζ hx hy e. rw e (p.plus_in x y hx hy))
+      (λ i j ζ hi hj e. rw e (p.times_in i j hj)))
       (λ ζ h. single 𝟏 ζ (in_one 𝟏) h (sym (one-⊗ (order r D) ζ)))
       (omega arith)
 
@@ -173,9 +174,4 @@ module _ {C R : Type 0} (K : PolyRing C R) (S : Setting K) where
 
   -- elements of O
   pub O_zero? : (a : O R) → Dec (a ≡ 𝟎)
-  O_zero? a = go (K.zero? a.u) (K.zero? a.v)
-    where
-      go : Dec (a.u ≡ r.𝟘) → Dec (a.v ≡ r.𝟘) → Dec (a ≡ 𝟎)
-      go (yes e) (yes f) = yes (λ i. mk (e i) (f i))
-      go (yes e) (no n) = no (λ z. n (ap (λ x. x.v) z))
-      go (no n) d = no (λ z. n (ap (λ x. x.u) z))
+  O_zero? a = Dec.of_iff (λ h i. mk (h.0 i) (h.1 i), λ z. (ap (λ x. x.u) z, ap (λ x. x.v) z)) (Dec.and (K.zero? a.u) (K.zero? a.v))

@@ -1,6 +1,6 @@
 -- The baby step, of every ideal (Q, P): with P + d = k·Q + s and s shorter than Q it goes to P₁ = d − s and Q₁ = (D − P₁²) / Q.
 -- It can always be made; the lengths say how far it goes, when the next ideal is reduced, and how deg Q falls until then.
-use mathlib.Core.Path.{◌≡◌, refl, sym, ◌∙◌, ap, subst}
+use mathlib.Core.Path.{◌≡◌, refl, sym, ◌∙◌, ap}
 use mathlib.Core.Logic.{◌≢◌}
 use mathlib.Core.List.{[], ◌∷◌}
 use Prim.Native.Nat.{ℕ, ◌+◌, ◌-◌, ◌≤◌, ◌<◌}
@@ -33,11 +33,11 @@ module _ {C R : Type 0} (K : PolyRing C R) (S : Setting K) where
   module _ (Q P : R) (b : Ideal r D) (ν : StandardForm K S Q P b) where
     pub standard-⊆ : (ζ : O R) → In r Q P ζ → I r b ζ
     standard-⊆ ζ h = remainder r b.Q P b.P ν.q ν.P_is ζ
-        (subst (λ x. In r x P ζ) (sym ν.Q_is) (scale r ν.c ν.e ν.inverse Q (ζ.u ⊕ ⊖ (ζ.v ⊗ P)) h))
+        (rw ν.Q_is (scale r ν.c ν.e ν.inverse Q (ζ.u ⊕ ⊖ (ζ.v ⊗ P)) h))
 
     pub standard-⊇ : (ζ : O R) → I r b ζ → In r Q P ζ
     standard-⊇ ζ h = scale⁻¹ r ν.c ν.e ν.inverse Q (ζ.u ⊕ ⊖ (ζ.v ⊗ P))
-        (subst (λ x. In r x P ζ) ν.Q_is (remainder⁻¹ r b.Q P b.P ν.q ν.P_is ζ h))
+        (rw (sym ν.Q_is) (remainder⁻¹ r b.Q P b.P ν.q ν.P_is ζ h))
 
     pub normal_len : Q ≢ 𝟘 → len b.Q ≡ len Q
     normal_len h = ap len ν.Q_is ∙ scale_len K ν.c ν.e Q ν.inverse h
@@ -65,12 +65,9 @@ module _ {C R : Type 0} (K : PolyRing C R) (S : Setting K) where
           inverse = i;
           Q_is = refl;
           P_is = w.2;
-          standard = record { small = w.3; monic = λ k p. ap (K.coef (c ⊗ Q)) (same k n (omega arith)) ∙ top };
+          standard = record { small = w.3; monic = λ k p. (let z : k ≡ n = omega arith in ap (K.coef (c ⊗ Q)) z ∙ top) };
         },
       )
-    where
-      same : (i j : ℕ) → i ≡ j → i ≡ j
-      same i j e = e
 
   -- it can be made from every ideal
   pub steps : (a : Ideal r D) → (Q₁ : R) × (P₁ : R) × BabyStep K S a.Q a.P Q₁ P₁

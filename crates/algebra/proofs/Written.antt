@@ -1,11 +1,12 @@
 -- Steps and products of written ideals from their witnesses. Everything that a step or a product claims is an equation between
 -- polynomials or a comparison of lengths, so that for given witnesses it is tested by evaluating lists of numbers.
-use mathlib.Core.Path.{◌≡◌, sym, ◌∙◌, ap, ap₂, refl, subst₂}
+use mathlib.Core.Path.{◌≡◌, sym, ◌∙◌, ap, ap₂, refl}
 use mathlib.Core.Logic.{◌≢◌}
 use mathlib.Core.List.{List, [], ◌∷◌, map}
 use Prim.Native.Nat.{ℕ, suc, ◌+◌, ◌-◌}
 use native.Mathlib.Omega.{arith}
 use lib.ListN.{get_or}
+use Rattle.std.specs.List.{AllByRecursion}
 use Rattle.field.specs.Meaning.{Meaning, Lawful}
 use Rattle.ring.proofs.Ring.{Divides}
 use Rattle.ring.proofs.Poly.{list_ext}
@@ -13,11 +14,11 @@ use Rattle.ring.proofs.Lengths.{pos_len}
 use Rattle.algebra.specs.Codes.{Code, code, code_ext, num_code, R, K}
 use Rattle.algebra.specs.Settings.{Setting}
 use Rattle.algebra.specs.Ideals.{Ideal, Standard, StandardForm}
-use Rattle.algebra.specs.Steps.{BabyStep, StepTo}
+use Rattle.algebra.specs.Steps.{StepTo}
 use Rattle.algebra.specs.Products.{Product}
 use Rattle.algebra.specs.Lines.{Line, next}
 use Rattle.algebra.specs.Places.{Reduces}
-use Rattle.algebra.specs.Worked.{Written, Case, line_at, product_to, written, Shows, Holds, AllHold}
+use Rattle.algebra.specs.Worked.{Written, Case, line_at, product_to, written, Shows, Holds}
 use Rattle.algebra.proofs.Unique.{standard_by}
 
 -- the standard form of some (Q₁, P₁): c·e = 1, Q = c·Q₁, P₁ = q·Q + P, and D − P·P = C·Q
@@ -63,7 +64,7 @@ module _ {M : Meaning} (L : Lawful M) where
   abbrev pub numbers : R L → List ℕ
   numbers p = map (λ (c : Code M). c.num) p.list
 
-  codes_numbers : (l : List (Code M)) → map (code L) (map (λ (c : Code M). c.num) l) ≡ l
+  pub codes_numbers : (l : List (Code M)) → map (code L) (map (λ (c : Code M). c.num) l) ≡ l
   codes_numbers [] = refl
   codes_numbers (c ∷ l) = ap₂ ◌∷◌ (code_ext (code L c.num) c (num_code L c.num c.low)) (codes_numbers l)
 
@@ -143,7 +144,7 @@ module _ {M : Meaning} (L : Lawful M) where
       turn_is x σ g h = record {
         Q₁ = w t.Q₁;
         P₁ = w t.P₁;
-        steps_to = subst₂ (λ Q P. BabyStep (K L) S Q P (w t.Q₁) (w t.P₁)) (sym σ.Q_is) (sym σ.P_is) record {
+        steps_to = rw (σ.Q_is, σ.P_is) record {
           k = w t.k;
           s = w t.s;
           alive = pos_len (K L) (w a.Q) (omega (arith, figure 0 (entry 3 g)));
@@ -172,7 +173,7 @@ module _ {M : Meaning} (L : Lawful M) where
     stretch_cases i (t ∷ ts) = line_at i t.0.to.ideal t.1 ∷ stretch_cases (suc i) ts
 
     pub stretch : (ts : List (Turn × ℕ)) (i δ : ℕ) (a : Written) (x : Ideal r D) → Line (K L) S i x δ → Shows L S x a
-        → stretch_left δ a ts ≡ stretch_right δ a ts → AllHold L S (stretch_cases (suc i) ts)
+        → stretch_left δ a ts ≡ stretch_right δ a ts → AllByRecursion (Holds L S) (stretch_cases (suc i) ts)
     stretch [] i δ a x l σ h = tt
     stretch (t ∷ ts) i δ a x l σ h =
         let g = part 1 h in

@@ -1,10 +1,11 @@
 -- The field of codes of a lawful meaning: the numbers below its size.
+-- A field carries its laws, so the lemmas here are parts of `codes`; specs/ cannot cite this crate's proofs/.
 use Rattle.std.proofs.Math.Path.{◌≡◌, ap}
 use Rattle.std.specs.Prelude.{refl, ◌≢◌, ℕ, ◌<◌}
 use mathlib.Core.HLevel.{is_prop→PathP}
 use Rattle.std.proofs.Math.Bridge.{le_prop}
 use Rattle.std.proofs.Math.Decide.{ℕ_discrete, dec_lt}
-use native.Mathlib.Omega.{arith}
+use Rattle.std.proofs.Math.Nat.{lt_trans, lt-suc_self, pos_of_ne-zero, suc-ne-zero, zero-lt-suc}
 use Rattle.field.specs.Meaning.{Meaning, Lawful}
 use Rattle.ring.proofs.Ring.{CommRing}
 use Rattle.ring.proofs.Field.{Field, inv_d, inv_d_is}
@@ -25,7 +26,7 @@ code_ext {m} a b e = λ i. record {
 
 module _ {m : Meaning} (L : Lawful m) where
   pub zero_low : 0 < m.size
-  zero_low = let h = L.low in omega arith
+  zero_low = lt_trans (zero-lt-suc 1) L.low
 
   abbrev pub code_d : (n : ℕ) → Dec (n < m.size) → Code m
   code_d n (yes h) = record { num = n; low = h }
@@ -44,7 +45,7 @@ module _ {m : Meaning} (L : Lawful m) where
   num_code n l = num_code_d n (dec_lt n m.size) l
 
   pub one_low : 1 < m.size
-  one_low = let h = L.low in omega arith
+  one_low = lt_trans (lt-suc_self 1) L.low
 
   unfoldable pub ring_c : CommRing (Code m)
   ring_c = record {
@@ -75,13 +76,12 @@ module _ {m : Meaning} (L : Lawful m) where
   unfolding ring_c
   inverse_c a h =
       let n : a.num ≢ 0 = λ e. h (code_ext _ _ e) in
-      let l : 0 < a.num = omega arith in
-      let t = L.inverse_there a.num l a.low in
+      let t = L.inverse_there a.num (pos_of_ne-zero n) a.low in
       (record { num = t.0; low = t.2 }, code_ext _ _ t.3)
 
   pub one_c : ring_c.𝟙 ≢ ring_c.𝟘
   unfolding ring_c
-  one_c e = let q : ◌≡◌ {A = ℕ} 1 0 = ap (λ (c : Code m). c.num) e in absurd (omega arith)
+  one_c e = suc-ne-zero 0 (ap (λ (c : Code m). c.num) e)
 
   pub two_c : ring_c.◌⊕◌ ring_c.𝟙 ring_c.𝟙 ≢ ring_c.𝟘
   unfolding ring_c

@@ -3,14 +3,10 @@
 -- the norm. It may be negative, so it is written as a difference, top − bot.
 use Rattle.std.specs.Prelude.{◌≡◌, ◌≢◌, ℕ, ◌+◌, ◌≤◌, ◌<◌}
 use Rattle.std.proofs.Math.Decide.{dec_le}
+use mathlib.Core.Logic.{ite}
 use Rattle.ring.proofs.PolyRing.{PolyRing}
 use Rattle.ring.proofs.Order.{O, mk, order, conj, norm}
 use Rattle.algebra.specs.Settings.{Setting}
-
--- x if the fact holds, else y
-unfoldable pub either_of : {A : Type 0} → Dec A → ℕ → ℕ → ℕ
-either_of (yes _) x y = x
-either_of (no _) x y = y
 
 module _ {C R : Type 0} (K : PolyRing C R) (S : Setting K) where
   infixl 60 ◌⊕◌
@@ -28,10 +24,10 @@ module _ {C R : Type 0} (K : PolyRing C R) (S : Setting K) where
   minus_part a = a.u ⊕ ⊖ (a.v ⊗ d)
 
   unfoldable pub top : O R → ℕ
-  top a = either_of (dec_le (len (minus_part a)) (len (plus_part a))) (len (plus_part a)) (len (norm r D a))
+  top a = ite (dec_le (len (minus_part a)) (len (plus_part a))) (len (plus_part a)) (len (norm r D a))
 
   unfoldable pub bot : O R → ℕ
-  bot a = either_of (dec_le (len (minus_part a)) (len (plus_part a))) 1 (len (minus_part a))
+  bot a = ite (dec_le (len (minus_part a)) (len (plus_part a))) 1 (len (minus_part a))
 
   -- what the degree keeps: the ring has no zero divisors; the degree is additive, that of polynomials on polynomials; with the
   -- conjugate's it makes the degree of the norm; an element whose two degrees are small has a short y-part; the degree of P + y

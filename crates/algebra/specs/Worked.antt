@@ -2,6 +2,7 @@
 -- a new case is one more entry of the list, and a new kind of case one more constructor. Polynomials are written by the numbers
 -- of their coefficients, low degree first: x + 3 is 3 ∷ 1 ∷ [].
 use Rattle.std.specs.Prelude.{◌≡◌, List, [], ◌∷◌, ◌++◌, map, ℕ, ◌+◌}
+use Rattle.std.specs.List.{AllByRecursion}
 use Rattle.field.specs.Meaning.{Meaning, Lawful}
 use Rattle.field.specs.Primes.{prime_meaning}
 use Rattle.ring.proofs.PolyRing.{PolyRing}
@@ -55,19 +56,15 @@ module _ {M : Meaning} (L : Lawful M) where
       pub P_is : a.P ≡ written w.P
 
     -- there is an ideal that is the written one and has the property
-    abbrev pub Some : Written → (Ideal (K L).r S.D → Type 0) → Type 0
-    Some w A = (a : Ideal (K L).r S.D) × Shows a w × A a
+    abbrev pub ThereIs : Written → (Ideal (K L).r S.D → Type 0) → Type 0
+    ThereIs w A = (a : Ideal (K L).r S.D) × Shows a w × A a
 
     abbrev pub Holds : Case → Type 0
-    Holds (line_at i a δ) = Some a (λ x. Line (K L) S i x δ)
-    Holds (product_to a b c n) = Some a (λ x. Some b (λ y. Some c (λ z. ReducedProduct (K L) S x y z n)))
-    Holds (place_at t a f) = Some a (λ x. PlaceAt (K L) S t (place (K L) S x f))
-    Holds (sum_to a f b g c h) = Some a (λ x. Some b (λ y. Some c (λ z.
+    Holds (line_at i a δ) = ThereIs a (λ x. Line (K L) S i x δ)
+    Holds (product_to a b c n) = ThereIs a (λ x. ThereIs b (λ y. ThereIs c (λ z. ReducedProduct (K L) S x y z n)))
+    Holds (place_at t a f) = ThereIs a (λ x. PlaceAt (K L) S t (place (K L) S x f))
+    Holds (sum_to a f b g c h) = ThereIs a (λ x. ThereIs b (λ y. ThereIs c (λ z.
         AddsTo (K L) S (place (K L) S x f) (place (K L) S y g) (place (K L) S z h))))
-
-    abbrev pub AllHold : List Case → Type 0
-    AllHold [] = Unit {0}
-    AllHold (c ∷ cs) = Holds c × AllHold cs
 
   -- the setting of the cases
   pub record Sample : Type 0 where
@@ -120,4 +117,4 @@ cases = line_cases ++ product_cases ++ place_cases
 
 -- the field of 5 elements is lawful, and however that is shown, there is the setting, and all cases hold in it
 abbrev pub WorkedCases : Type 0
-WorkedCases = Lawful (prime_meaning 5) × ((L : Lawful (prime_meaning 5)) → (s : Sample L) × AllHold L s.setting cases)
+WorkedCases = Lawful (prime_meaning 5) × ((L : Lawful (prime_meaning 5)) → (s : Sample L) × AllByRecursion (Holds L s.setting) cases)

@@ -2,43 +2,36 @@
 ghost use Rattle.algebra.specs.TheoremsOfIdeals.{DegreesAdd, EquivalentPlacesAreEqual, ProductsAreOne, QuadraticRingHasNorms, SetsDecideIdeals, StepsMoveIdeals};
 
 /// The ring of u + v·y has no zero divisors, and its norm is multiplicative.
-pub fn quadratic_ring_has_norms() -> u8
+pub fn quadratic_ring_has_norms()
     ensures { QuadraticRingHasNorms }
-{
-    0
-}
+{}
 
 /// The degree at one infinite place: additive, with the box property.
-pub fn degrees_add() -> u8
+#[tactic(auto, using(crate::proofs::Degrees::degree))]
+pub fn degrees_add()
     ensures { DegreesAdd }
-{
-    0
-}
+{}
 
 /// An ideal in standard form is decided by the set of its elements.
-pub fn sets_decide_ideals() -> u8
+#[tactic(auto, using(crate::proofs::IdealTheorems::ideals_as_sets))]
+pub fn sets_decide_ideals()
     ensures { SetsDecideIdeals }
-{
-    0
-}
+{}
 
 /// The baby step of every ideal: its set equation, its length, and how the degree of Q falls.
-pub fn steps_move_ideals() -> u8
+#[tactic(auto, using(crate::proofs::IdealTheorems::baby_steps))]
+pub fn steps_move_ideals()
     ensures { StepsMoveIdeals }
-{
-    0
-}
+{}
 
 /// The product of two ideals, from any multipliers; it is one whatever they are.
-pub fn products_are_one() -> u8
+#[tactic(auto, using(crate::proofs::IdealTheorems::products_of_ideals))]
+pub fn products_are_one()
     ensures { ProductsAreOne }
-{
-    0
-}
+{}
 
 /// Equivalence of places; lawful places that are equivalent are equal.
-pub fn equivalent_places_are_equal() -> u8
+#[tactic(auto, using(crate::proofs::IdealTheorems::equivalence_laws))]
+pub fn equivalent_places_are_equal()
     ensures { EquivalentPlacesAreEqual }
-{
-    0
-}
+{}

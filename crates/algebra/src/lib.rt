@@ -2,6 +2,7 @@
 //
 // specs/ holds the definitions that the contracts of other crates cite, and the statements of the theorems; proofs/ holds the
 // theory. The crate computes nothing: each function below names one theorem in its contract, so that the theorem is asked for.
+// Above it stands the lemma that proves it, or proofs/ has the answer where the check does not close the goal from that lemma.
 #![tactic(auto)]
 
 mod ideals;

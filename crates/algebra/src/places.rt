@@ -2,50 +2,42 @@
 ghost use Rattle.algebra.specs.TheoremsOfPlaces.{EveryPlaceIsOne, LineIsOne, MultiplesMeet, PlacesAdd, PlacesAddTheirNumbers, PlacesDouble, PlacesHaveMultiples};
 
 /// The sum of any two places: one lawful place; commutative, associative, with place 0 neutral.
-pub fn places_add() -> u8
+#[tactic(auto, using(crate::proofs::PlaceTheorems::sums_of_places))]
+pub fn places_add()
     ensures { PlacesAdd }
-{
-    0
-}
+{}
 
 /// The line: number i is one ideal at one distance, and distances rise.
-pub fn line_is_one() -> u8
+#[tactic(auto, using(crate::proofs::PlaceTheorems::line_laws))]
+pub fn line_is_one()
     ensures { LineIsOne }
-{
-    0
-}
+{}
 
 /// Place t, for every t: there is one, and its ideal is the one closest to the left of t.
-pub fn every_place_is_one() -> u8
+pub fn every_place_is_one()
     ensures { EveryPlaceIsOne }
-{
-    0
-}
+{}
 
 /// Place s plus place t is place s + t.
-pub fn places_add_their_numbers() -> u8
+#[tactic(auto, using(crate::proofs::PlaceTheorems::sums_on_line))]
+pub fn places_add_their_numbers()
     ensures { PlacesAddTheirNumbers }
-{
-    0
-}
+{}
 
 /// Doubling with a digit.
-pub fn places_double() -> u8
+#[tactic(auto, using(crate::proofs::PlaceTheorems::doubles_on_line))]
+pub fn places_double()
     ensures { PlacesDouble }
-{
-    0
-}
+{}
 
 /// n times a place, for every place.
-pub fn places_have_multiples() -> u8
+#[tactic(auto, using(crate::proofs::PlaceTheorems::multiples_of_places))]
+pub fn places_have_multiples()
     ensures { PlacesHaveMultiples }
-{
-    0
-}
+{}
 
 /// n times place t is place n·t, so that both ends meet in one place.
-pub fn multiples_meet() -> u8
+#[tactic(auto, using(crate::proofs::PlaceTheorems::multiples_on_line))]
+pub fn multiples_meet()
     ensures { MultiplesMeet }
-{
-    0
-}
+{}

@@ -2,57 +2,48 @@
 ghost use Rattle.algebra.specs.TheoremsOfPolynomials.{CoefficientsDecide, DerivativeRules, DivisionIsOne, GcdsHaveMultipliers, LeadingCoefficientsMultiply, LengthsAdd, PolynomialsAreARing, SquareFactorsAreShared};
 
 /// Polynomials are a commutative ring, with sums and products by their coefficients.
-pub fn polynomials_are_a_ring() -> u8
+pub fn polynomials_are_a_ring()
     ensures { PolynomialsAreARing }
-{
-    0
-}
+{}
 
 /// Polynomials with the same coefficients are equal.
-pub fn coefficients_decide() -> u8
+#[tactic(auto, using(crate::proofs::PolynomialTheorems::coefficients))]
+pub fn coefficients_decide()
     ensures { CoefficientsDecide }
-{
-    0
-}
+{}
 
 /// Lengths of sums and products; there are no zero divisors.
-pub fn lengths_add() -> u8
+#[tactic(auto, using(crate::proofs::PolynomialTheorems::lengths))]
+pub fn lengths_add()
     ensures { LengthsAdd }
-{
-    0
-}
+{}
 
 /// Leading coefficients are not 0, and multiply.
-pub fn leading_coefficients_multiply() -> u8
+#[tactic(auto, using(crate::proofs::PolynomialTheorems::leading))]
+pub fn leading_coefficients_multiply()
     ensures { LeadingCoefficientsMultiply }
-{
-    0
-}
+{}
 
 /// Division with remainder: there is one quotient and one remainder.
-pub fn division_is_one() -> u8
+#[tactic(auto, using(crate::proofs::PolynomialTheorems::divisions))]
+pub fn division_is_one()
     ensures { DivisionIsOne }
-{
-    0
-}
+{}
 
 /// Greatest common divisors, with multipliers.
-pub fn gcds_have_multipliers() -> u8
+#[tactic(auto, using(crate::proofs::PolynomialTheorems::gcds))]
+pub fn gcds_have_multipliers()
     ensures { GcdsHaveMultipliers }
-{
-    0
-}
+{}
 
 /// The derivative: its coefficients, and the rules for sums and products.
-pub fn derivative_rules() -> u8
+#[tactic(auto, using(crate::proofs::PolynomialTheorems::derivatives))]
+pub fn derivative_rules()
     ensures { DerivativeRules }
-{
-    0
-}
+{}
 
 /// A square factor of a polynomial is one of its derivative too.
-pub fn square_factors_are_shared() -> u8
+#[tactic(auto, using(crate::proofs::PolynomialTheorems::square_factors))]
+pub fn square_factors_are_shared()
     ensures { SquareFactorsAreShared }
-{
-    0
-}
+{}

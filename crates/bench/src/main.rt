@@ -4,30 +4,27 @@
 #![tactic(auto)]
 
 use field::Prime;
-use ideal::Setting;
+use ideal::{Curve, Setting};
 use place::Place;
-use poly::Poly;
+use poly::{Poly, TooLong};
 use std::io;
 
 // D = x^50 + x + 1
-fn radicand() -> Poly {
+fn radicand() -> Result<Poly, TooLong> {
     let mut coeffs = [0u32; 51];
     coeffs[0] = 1;
     coeffs[1] = 1;
     coeffs[50] = 1;
-    match Poly::from(&coeffs) {
-        Some(d) => d,
-        None => Poly::zero(),
-    }
+    Poly::try_from(&coeffs[..])
 }
 
 // One find and one multiple for each round, each from a number of 32 bytes that depends on the round.
-fn rounds(field: &Prime, setting: &Setting, count: u8) -> (Place, Place) {
+fn rounds(curve: &Curve<Prime>, count: u8) -> (Place, Place) {
     let mut found = Place::origin();
     let mut multiple = Place::origin();
     for round in 0..count {
-        found = Place::find(field, setting, &[165 ^ round; 32]);
-        multiple = found.multiple(field, setting, &[90 ^ round; 32]);
+        found = Place::find(curve, &[165 ^ round; 32]);
+        multiple = found.multiple(curve, &[90 ^ round; 32]);
     }
     (found, multiple)
 }
@@ -44,10 +41,13 @@ fn main(rt: HostRuntime) -> io::Result<()> {
     let Ok(field) = Prime::new(10007) else {
         return println!(rt; "no such field");
     };
-    let Ok(setting) = Setting::new(&field, &radicand()) else {
+    let Ok(radicand) = radicand() else {
+        return println!(rt; "no such polynomial");
+    };
+    let Ok(setting) = Setting::new(&field, &radicand) else {
         return println!(rt; "no setting");
     };
-    let (found, multiple) = rounds(&field, &setting, count);
+    let (found, multiple) = rounds(&Curve { field, setting }, count);
     show(&rt, "find", &found)?;
     show(&rt, "multiple", &multiple)
 }

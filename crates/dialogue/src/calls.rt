@@ -9,30 +9,13 @@ use end::End;
 use field::{Field, Refusal};
 use std::alloc::{AllocError, Global};
 
-// The event of a call that wrote to the front of a buffer: the buffer is cut to what was written.
-fn wrote(side: Side, answer: Result<usize, Refusal>, mut out: Vec<u8>) -> Event
-    ensures side { result.side ≡ side }
-    ensures answer { answer_of result.answer ≡ answer_of answer }
-    ensures written { result.written.items ≡ written_to out.items answer }
+// The answer of a call that wrote to the front of a buffer, and the buffer cut to what was written.
+fn cut(answer: Result<usize, Refusal>, mut out: Vec<u8>) -> (Result<(), Refusal>, Vec<u8>)
+    ensures answer { answer_of result.0 ≡ answer_of answer }
+    ensures written { result.1.items ≡ written_to out.items answer }
 {
-    match answer {
-        Ok(len) => {
-            out.truncate(len);
-            Event {
-                side,
-                answer: Ok(()),
-                written: out,
-            }
-        }
-        Err(refusal) => {
-            out.clear();
-            Event {
-                side,
-                answer: Err(refusal),
-                written: out,
-            }
-        }
-    }
+    out.truncate(answer.unwrap_or(0));
+    (answer.map(|_| ()), out)
 }
 
 // Makes a call at an end. Without memory for the buffer of tell or key the call is not made.
@@ -45,40 +28,27 @@ pub fn perform<F: Field>(
     ensures event { MatchResult result (λ ev. (ev.side ≡ side) × Performed (F.meaning end.old.field) end.old order ev end.new) (λ _. end.new ≡ end.old) }
     ensures over { end.new.field ≡ end.old.field }
 {
-    match order {
-        Order::Load(bytes) => Ok(Event {
-            side,
-            answer: end.load(&bytes),
-            written: Vec::new(heap),
-        }),
-        Order::Open(mut secret) => {
-            let answer = end.open(&mut secret);
-            Ok(Event {
-                side,
-                answer,
-                written: secret,
-            })
-        }
+    let (answer, written) = match order {
+        Order::Load(bytes) => (end.load(&bytes), Vec::new(heap)),
+        Order::Open(mut secret) => (end.open(&mut secret), secret),
+        // tell and key stay two arms: one for both would have to ask again which of them to call
         Order::Tell(room) => {
             let mut out = vec![in heap; 0; room]?;
-            Ok(wrote(side, end.tell(&mut out), out))
+            cut(end.tell(&mut out), out)
         }
-        Order::Take(bytes) => Ok(Event {
-            side,
-            answer: end.take(&bytes),
-            written: Vec::new(heap),
-        }),
+        Order::Take(bytes) => (end.take(&bytes), Vec::new(heap)),
         Order::Key(room) => {
             let mut out = vec![in heap; 0; room]?;
-            Ok(wrote(side, end.key(&mut out), out))
+            cut(end.key(&mut out), out)
         }
         Order::Close => {
             end.close();
-            Ok(Event {
-                side,
-                answer: Ok(()),
-                written: Vec::new(heap),
-            })
+            (Ok(()), Vec::new(heap))
         }
-    }
+    };
+    Ok(Event {
+        side,
+        answer,
+        written,
+    })
 }

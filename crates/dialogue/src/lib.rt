@@ -7,8 +7,6 @@
 mod calls;
 mod script;
 mod talk;
-#[cfg(test)]
-mod tests;
 
 pub use calls::perform;
 pub use script::{Event, Line, Order, Side};

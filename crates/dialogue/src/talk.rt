@@ -33,6 +33,7 @@ fn step<F: Field>(
 // from ends that are newly loaded with one setting, and from those that an earlier script left. Both ends are to stand over the
 // same field. Where memory runs out, the calls before that are made and those after it are not; a secret that has not been opened
 // by then is let go as it is.
+// The two ends stay two parameters: a caller may keep them anywhere, and a struct of two borrows would only be taken apart again.
 pub fn converse<F: Field>(
     left: &mut End<F>,
     right: &mut End<F>,

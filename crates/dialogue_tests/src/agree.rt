@@ -1,38 +1,36 @@
 // One exchange, and what it must come to.
-use crate::scripts::{ROOM, answer, closing, opening, written};
+use crate::scripts::{answer, exchange, written};
 use crate::secrets::{drawn, product};
-use dialogue::converse;
 use end::End;
 use field::{Field, Refusal};
-use ideal::Setting;
+use ideal::Curve;
 use packet::{write_offer, write_setting};
 use place::{Place, lessen};
-use poly::Poly;
-use std::alloc::Global;
+use place_tests::settings::with_term;
+use std::alloc::{AllocError, Global};
 use std::process::Abort;
 use std::test::Fail;
 
-// x^degree + i·x + 1.
-fn radicand(degree: usize, i: u32) -> Option<Poly> {
-    let mut coeffs = [0u32; 51];
-    coeffs[0] = 1;
-    coeffs[1] = i;
-    if degree <= 50 {
-        coeffs[degree] = 1;
-    }
-    Poly::from(&coeffs)
+// Enough for every offer: 11 bytes, 25 codes of Q and 24 of P.
+const ROOM: usize = 207;
+
+// How far an end walks: its secret, less the offset of the place of the secret.
+#[derive(Clone, Copy)]
+struct Walk {
+    distance: [u8; 32],
+    offset: usize,
 }
 
-// The first accepted setting among these.
-pub fn setting<F: Field>(f: &F, degree: usize) -> Result<Setting, Fail> {
-    for i in 1..f.size().min(40) {
-        if let Some(d) = radicand(degree, i) {
-            if let Ok(setting) = Setting::new(f, &d) {
-                return Ok(setting);
-            }
+impl Walk {
+    fn new<F: Field>(curve: &Curve<F>, secret: &[u8]) -> Walk {
+        let offset = Place::find(curve, secret).offset();
+        let mut distance = [0u8; 32];
+        if secret.len() <= 32 {
+            distance[32 - secret.len()..32].copy_from_slice(secret);
         }
+        lessen(&mut distance, offset);
+        Walk { distance, offset }
     }
-    Err(Fail::new("no setting among the first"))
 }
 
 // An end that is newly loaded with the packet of a setting.
@@ -43,54 +41,49 @@ pub fn loaded<F: Field + Drop>(field: F, packet: &[u8]) -> Result<End<F>, Refusa
 }
 
 // A secret of this length whose ideal is not (1), with an offset that is not 0 if there is one among the first. In a large field
-// there is hardly one, and the first secret does.
-fn secret<F: Field>(f: &F, setting: &Setting, seed: u32, len: usize) -> [u8; 32] {
+// there is hardly one, and the first secret does. A loop, as the last secret that will do is kept while a better one is looked for.
+fn secret<F: Field>(
+    curve: &Curve<F>,
+    seed: u32,
+    len: usize,
+    heap: Global,
+) -> Result<Vec<u8>, AllocError> {
+    let len = len.min(32);
     let mut chosen = drawn(seed);
     for i in 1..12u32 {
         let drawn = drawn(seed.wrapping_add(i));
-        let place = Place::find(f, setting, &drawn[0..len.min(32)]);
+        let place = Place::find(curve, &drawn[0..len]);
         if !place.ideal().is_one() {
             chosen = drawn;
-            if place.offset() > 0 || f.size() > 1000 {
-                return chosen;
+            if place.offset() > 0 || curve.field.size() > 1000 {
+                break;
             }
         }
     }
-    chosen
-}
-
-// The own distance of a secret, as 32 bytes, and whether it is other than the secret.
-fn own<F: Field>(f: &F, setting: &Setting, secret: &[u8]) -> ([u8; 32], bool) {
-    let place = Place::find(f, setting, secret);
-    let mut number = [0u8; 32];
-    if secret.len() <= 32 {
-        number[32 - secret.len()..32].copy_from_slice(secret);
-    }
-    lessen(&mut number, place.offset());
-    (number, place.offset() > 0)
+    Vec::from_slice(heap, &chosen[0..len])
 }
 
 // The bytes of the key that both ends must have; none if it is (1).
 fn key<F: Field>(
-    f: &F,
-    setting: &Setting,
-    left: &[u8; 32],
-    right: &[u8; 32],
+    curve: &Curve<F>,
+    left: &Walk,
+    right: &Walk,
     heap: Global,
-) -> Result<Vec<u8>, Fail> {
-    let place = Place::find(f, setting, &product(left, right));
-    let mut out = vec![in heap; 0; ROOM]?;
+) -> Result<Option<Vec<u8>>, Fail> {
+    let place = Place::find(curve, &product(&left.distance, &right.distance));
     if place.ideal().is_one() {
-        out.clear();
-    } else {
-        let len = write_offer(place.ideal().q(), place.ideal().p(), &mut out)?;
-        out.truncate(len);
+        return Ok(None);
     }
-    Ok(out)
+    // A writer lends a buffer, and says how much of it is the packet.
+    let mut out = vec![in heap; 0; ROOM]?;
+    let len = write_offer(place.ideal().q(), place.ideal().p(), &mut out)?;
+    out.truncate(len);
+    Ok(Some(out))
 }
 
 // Two ends over one field, with secrets of these lengths: both get the key that the product of their own distances has, or both
-// answer 45. Tells whether an offset was not 0.
+// answer 45. Tells whether an offset was not 0. The heap comes beside `rt`: below a test's own function `&HostRuntime` may not abort,
+// and `&impl Abort` has no heap.
 pub fn agree<F: Field + Copy + Drop>(
     rt: &impl Abort,
     field: F,
@@ -98,27 +91,31 @@ pub fn agree<F: Field + Copy + Drop>(
     lengths: (usize, usize),
     heap: Global,
 ) -> Result<bool, Fail> {
-    let setting = setting(&field, degree)?;
+    // the first accepted setting of x^degree + i·x + 1
+    let setting = (1..field.size().min(40))
+        .find_map(|i| with_term(&field, degree, i))
+        .ok_or("no setting among the first")?;
+    let curve = Curve { field, setting };
+    // the same with the setting's packet
     let mut packet = vec![in heap; 0; 256]?;
     let len = write_setting(&field, setting.radicand(), &mut packet)?;
     packet.truncate(len);
-    let a = secret(&field, &setting, 0, lengths.0);
-    let b = secret(&field, &setting, 100, lengths.1);
-    let a = &a[0..lengths.0.min(32)];
-    let b = &b[0..lengths.1.min(32)];
+    let a = secret(&curve, 0, lengths.0, heap)?;
+    let b = secret(&curve, 100, lengths.1, heap)?;
     let mut left = loaded(field, &packet)?;
     let mut right = loaded(field, &packet)?;
-    let told = converse(&mut left, &mut right, opening(a, b, heap)?, heap)?;
-    assert_eq!(rt; answer(&told, 0), 0);
-    assert_eq!(rt; answer(&told, 1), 0);
-    let log = converse(&mut left, &mut right, closing(&told, heap)?, heap)?;
-    let (mine, some) = own(&field, &setting, a);
-    let (theirs, other) = own(&field, &setting, b);
-    let key = key(&field, &setting, &mine, &theirs, heap)?;
-    let number = if key.is_empty() { 45 } else { 0 };
-    assert_eq!(rt; answer(&log, 0), number);
-    assert_eq!(rt; answer(&log, 1), number);
-    assert!(rt; written(&log, 2, heap)?.as_slice() == key.as_slice());
-    assert!(rt; written(&log, 3, heap)?.as_slice() == key.as_slice());
-    Ok(some || other)
+    let (told, log) = exchange(&mut left, &mut right, (&a, &b), ROOM, heap)?;
+    assert_eq!(rt; answer(&told, 0), Some(Ok(())));
+    assert_eq!(rt; answer(&told, 1), Some(Ok(())));
+    let mine = Walk::new(&curve, &a);
+    let theirs = Walk::new(&curve, &b);
+    let (wanted, bytes) = match key(&curve, &mine, &theirs, heap)? {
+        Some(bytes) => (Ok(()), bytes),
+        None => (Err(Refusal::TrivialKey), Vec::new(heap)),
+    };
+    assert_eq!(rt; answer(&log, 0), Some(wanted));
+    assert_eq!(rt; answer(&log, 1), Some(wanted));
+    assert!(rt; written(&log, 2) == Some(bytes.as_slice()));
+    assert!(rt; written(&log, 3) == Some(bytes.as_slice()));
+    Ok(mine.offset > 0 || theirs.offset > 0)
 }

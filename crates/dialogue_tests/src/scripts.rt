@@ -1,66 +1,70 @@
-// Scripts of an exchange, and what their logs have.
-use dialogue::{Event, Line, Order, Side};
+// Scripts of whole exchanges, and what their logs have.
+use dialogue::{Event, Line, Order, Side, converse};
+use end::End;
+use field::{Field, Refusal};
 use std::alloc::{AllocError, Global};
+use std::test::Fail;
 
-// Enough for every offer: 11 bytes, 25 codes of Q and 24 of P.
-pub const ROOM: usize = 207;
-
-pub fn add(script: &mut Vec<Line>, side: Side, order: Order) -> Result<(), AllocError> {
-    script.push(Line { side, order })?;
-    Ok(())
+pub fn at_left(order: Order) -> Line {
+    Line {
+        side: Side::Left,
+        order,
+    }
 }
 
-// Both ends open with their secrets and tell their offers.
-pub fn opening(left: &[u8], right: &[u8], heap: Global) -> Result<Vec<Line>, AllocError> {
-    let mut script = Vec::new(heap);
-    add(
-        &mut script,
-        Side::Left,
-        Order::Open(Vec::from_slice(heap, left)?),
-    )?;
-    add(
-        &mut script,
-        Side::Right,
-        Order::Open(Vec::from_slice(heap, right)?),
-    )?;
-    add(&mut script, Side::Left, Order::Tell(ROOM))?;
-    add(&mut script, Side::Right, Order::Tell(ROOM))?;
-    Ok(script)
+pub fn at_right(order: Order) -> Line {
+    Line {
+        side: Side::Right,
+        order,
+    }
+}
+
+// Both ends open with their secrets and tell their offers into buffers of this length.
+fn opening(left: &[u8], right: &[u8], room: usize, heap: Global) -> Result<Vec<Line>, AllocError> {
+    Ok(vec![in heap;
+        at_left(Order::Open(Vec::from_slice(heap, left)?)),
+        at_right(Order::Open(Vec::from_slice(heap, right)?)),
+        at_left(Order::Tell(room)),
+        at_right(Order::Tell(room)),
+    ]?)
 }
 
 // Each end takes what the other told, and both give out the key.
-pub fn closing(told: &[Event], heap: Global) -> Result<Vec<Line>, AllocError> {
-    let mut script = Vec::new(heap);
-    add(
-        &mut script,
-        Side::Left,
-        Order::Take(written(told, 3, heap)?),
+fn closing(told: &[Event], room: usize, heap: Global) -> Result<Vec<Line>, Fail> {
+    let left = written(told, 2).ok_or("nothing told at the left")?;
+    let right = written(told, 3).ok_or("nothing told at the right")?;
+    Ok(vec![in heap;
+        at_left(Order::Take(Vec::from_slice(heap, right)?)),
+        at_right(Order::Take(Vec::from_slice(heap, left)?)),
+        at_left(Order::Key(room)),
+        at_right(Order::Key(room)),
+    ]?)
+}
+
+// An exchange in two scripts, of which the second hands over what the first told. Gives both logs.
+pub fn exchange<F: Field>(
+    left: &mut End<F>,
+    right: &mut End<F>,
+    secrets: (&[u8], &[u8]),
+    room: usize,
+    heap: Global,
+) -> Result<(Vec<Event>, Vec<Event>), Fail> {
+    let told = converse(
+        left,
+        right,
+        opening(secrets.0, secrets.1, room, heap)?,
+        heap,
     )?;
-    add(
-        &mut script,
-        Side::Right,
-        Order::Take(written(told, 2, heap)?),
-    )?;
-    add(&mut script, Side::Left, Order::Key(ROOM))?;
-    add(&mut script, Side::Right, Order::Key(ROOM))?;
-    Ok(script)
+    let log = converse(left, right, closing(&told, room, heap)?, heap)?;
+    Ok((told, log))
 }
 
 // What the event at an index wrote.
-pub fn written(log: &[Event], i: usize, heap: Global) -> Result<Vec<u8>, AllocError> {
-    match log.get(i) {
-        Some(event) => Vec::from_slice(heap, &event.written),
-        None => Ok(Vec::new(heap)),
-    }
+pub fn written(log: &[Event], i: usize) -> Option<&[u8]> {
+    log.get(i).map(|event| event.written.as_slice())
 }
 
-// The answer of the event at an index as a number, 0 for accepted.
-pub fn answer(log: &[Event], i: usize) -> u16 {
-    match log.get(i) {
-        Some(event) => match event.answer {
-            Ok(()) => 0,
-            Err(refusal) => refusal.number(),
-        },
-        None => 1,
-    }
+// The answer of the event at an index.
+pub fn answer(log: &[Event], i: usize) -> Option<Result<(), Refusal>> {
+    log.get(i).map(|event| event.answer)
 }

@@ -1,15 +1,46 @@
-// Exchanges over every kind of field, and calls out of turn in the smallest setting.
+// Exchanges over every kind of field; and exchanges and calls out of turn in the smallest setting.
 use crate::agree::{agree, loaded};
-use crate::scripts::{add, answer, written};
-use dialogue::{Order, Side, converse};
-use field::{Extension, Prime};
+use crate::scripts::{answer, at_left, exchange, written};
+use dialogue::{Event, Order, converse};
+use field::{Extension, Prime, Refusal};
+use packet_tests::worked::SETTING;
+use std::alloc::Global;
 use std::test::Fail;
 
-// The packet of x^4 + x + 1 over 5.
-const SETTING: [u8; 35] = [
-    2, 1, 0, 11, 0, 4, 2, 0, 15, 0, 20, 0, 0, 0, 5, 0, 0, 0, 1, 0, 0, 0, 0, 0, 0, 0, 0, 0, 0, 0, 1,
-    0, 0, 0, 1,
+// The offer of (x, 1).
+const KEY: [u8; 23] = [
+    2, 3, 0, 11, 0, 8, 4, 0, 19, 0, 4, 0, 0, 0, 1, 0, 0, 0, 0, 0, 0, 0, 1,
 ];
+
+// What came of the calls behind the tells, in an exchange with secrets of one byte.
+fn exchanged(left: u8, right: u8, heap: Global) -> Result<Vec<Event>, Fail> {
+    let mut one = loaded(Prime::new(5)?, &SETTING)?;
+    let mut other = loaded(Prime::new(5)?, &SETTING)?;
+    let (_, log) = exchange(&mut one, &mut other, (&[left], &[right]), 64, heap)?;
+    Ok(log)
+}
+
+#[test]
+fn equal_keys(rt: HostRuntime) -> Result<(), Fail> {
+    let heap = rt.alloc();
+    let log = exchanged(5, 3, heap)?;
+    assert_eq!(rt; log.len(), 4);
+    assert_eq!(rt; answer(&log, 0), Some(Ok(())));
+    assert_eq!(rt; answer(&log, 1), Some(Ok(())));
+    assert!(rt; written(&log, 2) == Some(&KEY[..]));
+    assert!(rt; written(&log, 3) == Some(&KEY[..]));
+    Ok(())
+}
+
+#[test]
+fn trivial_key(rt: HostRuntime) -> Result<(), Fail> {
+    let log = exchanged(3, 3, rt.alloc())?;
+    assert_eq!(rt; answer(&log, 0), Some(Err(Refusal::TrivialKey)));
+    assert_eq!(rt; answer(&log, 1), Some(Err(Refusal::TrivialKey)));
+    assert_eq!(rt; answer(&log, 2), Some(Err(Refusal::NotKeyed)));
+    assert_eq!(rt; answer(&log, 3), Some(Err(Refusal::NotKeyed)));
+    Ok(())
+}
 
 // Secrets of both sides over ten prime fields.
 #[test]
@@ -59,21 +90,31 @@ fn out_of_turn(rt: HostRuntime) -> Result<(), Fail> {
     let heap = rt.alloc();
     let mut left = loaded(Prime::new(5)?, &SETTING)?;
     let mut right = loaded(Prime::new(5)?, &SETTING)?;
-    let mut script = Vec::new(heap);
-    add(&mut script, Side::Left, Order::Tell(64))?;
-    add(&mut script, Side::Left, Order::Open(vec![in heap; 1]?))?;
-    add(&mut script, Side::Left, Order::Open(vec![in heap; 0, 5]?))?;
-    add(&mut script, Side::Left, Order::Open(vec![in heap; 3]?))?;
-    add(&mut script, Side::Left, Order::Tell(18))?;
-    add(&mut script, Side::Left, Order::Close)?;
-    add(&mut script, Side::Left, Order::Tell(64))?;
+    let script = vec![in heap;
+        at_left(Order::Tell(64)),
+        at_left(Order::Open(vec![in heap; 1]?)),
+        at_left(Order::Open(vec![in heap; 0, 5]?)),
+        at_left(Order::Open(vec![in heap; 3]?)),
+        at_left(Order::Tell(18)),
+        at_left(Order::Close),
+        at_left(Order::Tell(64)),
+    ]?;
     let log = converse(&mut left, &mut right, script, heap)?;
-    let mut i: usize = 0;
-    for wanted in [34, 33, 0, 31, 35, 0, 34] {
-        assert_eq!(rt; answer(&log, i), wanted);
-        i = i.saturating_add(1);
+    for (i, wanted) in [
+        Err(Refusal::NothingToTell),
+        Err(Refusal::TrivialSecret),
+        Ok(()),
+        Err(Refusal::NotReady),
+        Err(Refusal::BufferTooSmall),
+        Ok(()),
+        Err(Refusal::NothingToTell),
+    ]
+    .into_iter()
+    .enumerate()
+    {
+        assert_eq!(rt; answer(&log, i), Some(wanted));
     }
-    assert!(rt; written(&log, 2, heap)?.as_slice() == [0, 0].as_slice());
+    assert!(rt; written(&log, 2) == Some([0, 0].as_slice()));
     let place = left.find(&[10])?;
     assert!(rt; place.ideal().is_one());
     assert_eq!(rt; place.offset(), 1);

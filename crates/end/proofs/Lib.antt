@@ -1,4 +1,5 @@
 pub mod Standing
+pub mod Options
 pub mod Loading
 pub mod Opening
 pub mod Taking

@@ -1,9 +1,8 @@
 -- Loading a setting: the questions of its packet, one table after the other.
-use Rattle.std.proofs.Common.{◌≡◌, ℕ, List, [], Ok, Err, Result, refl, ap, inl, inr}
+use Rattle.std.proofs.Common.{ℕ, List, [], Ok, Err, Result, refl, inl}
 use Rattle.field.specs.Meaning.{Meaning}
 use Rattle.field.specs.Refusals.{refusal_number}
 use Rattle.field.specs.declared.refusal.Refusal.{Refusal}
-use Rattle.field.specs.declared.refusal.Refusal.TheVariants.{InUse}
 use Rattle.rules.specs.Questions.{Answers, accepted, refused}
 use Rattle.rules.specs.Packets.{body, second}
 use Rattle.rules.specs.Settings.{setting_asks, poly_of}
@@ -35,10 +34,6 @@ abbrev pub with_mode : {F : Type 0} → End F → Mode → End F
 with_mode e m = record { field = e.field; mode = m; ideal = e.ideal; distance = e.distance; key = e.key }
 
 module _ {F : Type 0} {M : Meaning} (e : End F) (x : List ℕ) where
-  pub in_use : (f : Refusal) → f ≡ InUse → ¬ (InBlankOrReady e.mode) → Follows M e (load x) (refused (refusal_number f)) [] e
-  in_use f is_so away = refuses e (load x) (refusal_number f) []
-      (λ L s is. (inr ((λ q. away ((loads_when L e s is).1 q)), ap (λ (d : Refusal). refused (refusal_number d)) is_so), refl))
-
   pub load_refused : (f : Refusal) → InBlankOrReady e.mode → SettingRead M x (Err f) → Follows M e (load x) (refused (refusal_number f)) [] e
   load_refused f ok read = refuses e (load x) (refusal_number f) [] (λ L s is. (inl ((loads_when L e s is).0 ok, read L), refl))
 

@@ -1,16 +1,16 @@
 -- Places handed in and given out.
-use Rattle.std.proofs.Common.{◌≡◌, ℕ, ◌+◌, ◌-◌, ◌<◌, ◌≤◌, List, [], ◌∷◌, ◌++◌, Ok, Err, Result, sym, refl, ap, ◌∙◌, subst, ap₂, inl, inr, ⊎_elim, arith}
+use Rattle.std.proofs.Common.{◌≡◌, ℕ, ◌+◌, ◌-◌, ◌<◌, ◌≤◌, List, [], ◌∷◌, ◌++◌, Ok, Err, Result, sym, refl, ap, ◌∙◌, subst, ap₂, inl, ⊎_elim, arith}
 use Rattle.std.proofs.lemmas.Bool.{cases_lt}
 use Rattle.field.specs.Meaning.{Meaning, Lawful}
 use Rattle.field.specs.Refusals.{refusal_number}
 use Rattle.field.specs.declared.refusal.Refusal.{Refusal}
-use Rattle.field.specs.declared.refusal.Refusal.TheVariants.{CodeTooLarge}
 use Rattle.algebra.specs.Codes.{zero_low, R, K}
 use Rattle.algebra.specs.Places.{place}
 use Rattle.algebra.specs.Lines.{PlaceAt}
 use Rattle.algebra.proofs.Unique.{ideal_path}
 use Rattle.rules.specs.Questions.{◌if_not◌, Answer, Answers, accepted, refused}
-use Rattle.rules.specs.Packets.{All, number, words}
+use Rattle.std.specs.List.{AllByRecursion}
+use Rattle.rules.specs.Packets.{number, words}
 use Rattle.rules.specs.Settings.{Accepted, setting}
 use Rattle.rules.specs.Ends.{State, blank, ready, opened, keyed, ideal_asks}
 use Rattle.rules.specs.Places.{Given, codes_of, poly_from, Places, Means, Shows, Loaded, place_asks, sum_asks, add_asks, FindGives, AddGives}
@@ -40,13 +40,13 @@ use Rattle.end.specs.Places.{given, shown, Under, PlaceRead, Finds, Adds, AddsOn
 use Rattle.end.proofs.Standing.{finds_when, setting_holds}
 
 -- the codes of a record, by their degree and in their order
-pub low_from : (q : ℕ) (p : Poly) → ((k : ℕ) → k < size p → at p k < q) → All (λ c. c < q) (codes_down p)
+pub low_from : (q : ℕ) (p : Poly) → ((k : ℕ) → k < size p → at p k < q) → AllByRecursion (λ c. c < q) (codes_down p)
 low_from q p h = all_from (λ c. c < q) (codes_down p) (λ k l.
     (let n = codes_length p in
     let s : k < size p = omega arith in
     subst (λ (c : ℕ). c < q) (sym (codes_at p k s)) (h (size p - 1 - k) (omega arith))))
 
-pub low_at : (q : ℕ) (p : Poly) → All (λ c. c < q) (codes_down p) → (k : ℕ) → k < size p → at p k < q
+pub low_at : (q : ℕ) (p : Poly) → AllByRecursion (λ c. c < q) (codes_down p) → (k : ℕ) → k < size p → at p k < q
 low_at q p h k l =
     let n = codes_length p in
     let i : ℕ = size p - 1 - k in
@@ -62,7 +62,7 @@ module _ {M : Meaning} (L : Lawful M) where
       ∙ body_words L v
 
   -- and stands for the polynomial that its codes are read as
-  pub given_is : (p : Poly) → All (λ c. c < M.size) (codes_down p) → Is L p (poly_from L (codes_down p))
+  pub given_is : (p : Poly) → AllByRecursion (λ c. c < M.size) (codes_down p) → Is L p (poly_from L (codes_down p))
   given_is p h =
       let low : Codes M p = λ k. ⊎_elim (low_at M.size p h k) (λ l. subst (λ (c : ℕ). c < M.size) (sym (p.past k l)) (zero_low L)) (cases_lt k (size p)) in
       let is = self L p low in
@@ -83,13 +83,7 @@ module _ {M : Meaning} (L : Lawful M) where
       (means.2 ∙ shows.2)
 
 module _ (M : Meaning) (t : Setting) (g : GivenPlace) where
-  pub q_too_large : ¬ (All (λ c. c < M.size) (codes_down g.q)) → PlaceRead M t g (Err CodeTooLarge)
-  q_too_large n L A is = inr ((λ h. n h.0), refl)
-
-  pub p_too_large : ¬ (All (λ c. c < M.size) (codes_down g.p)) → PlaceRead M t g (Err CodeTooLarge)
-  p_too_large n L A is = inr ((λ h. n h.1), refl)
-
-  module _ (q_low : All (λ c. c < M.size) (codes_down g.q)) (p_low : All (λ c. c < M.size) (codes_down g.p)) where
+  module _ (q_low : AllByRecursion (λ c. c < M.size) (codes_down g.q)) (p_low : AllByRecursion (λ c. c < M.size) (codes_down g.p)) where
     pub ideal_away : (f : Refusal) → IdealMade M t g.q g.p (Err f) → PlaceRead M t g (Err f)
     ideal_away f made L A is =
         let X = poly_from L (codes_down g.q) in

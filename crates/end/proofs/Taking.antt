@@ -1,5 +1,6 @@
 -- Taking an offer: its questions, one table after the other, and the key.
-use Rattle.std.proofs.Common.{◌≡◌, ℕ, Bool, true, false, List, [], ◌∷◌, ◌++◌, Ok, Err, Decides, Result, sym, refl, ap, ◌∙◌, subst, inl, inr, true≢false, arith, MatchResult}
+use Rattle.std.proofs.Common.{◌≡◌, ℕ, Bool, true, false, List, [], ◌∷◌, ◌++◌, Some, None, Option, Ok, Err, Decides, Result, sym, refl, ap, ◌∙◌, subst, inl, inr, true≢false, arith, MatchResult}
+use Rattle.std.specs.Option.{unwrap_or}
 use Rattle.field.specs.Meaning.{Meaning, Lawful}
 use Rattle.field.specs.Refusals.{refusal_number}
 use Rattle.field.specs.declared.refusal.Refusal.{Refusal}
@@ -18,7 +19,7 @@ use Rattle.rules.proofs.Answering.{accepted≢refused, answers_hold, accepted_th
 use Rattle.rules.proofs.Determined.{key_unique}
 use Rattle.poly.specs.declared.poly.Poly.{Poly}
 use Rattle.packet.specs.Contents.{offer_asked}
-use Rattle.packet.specs.Polynomials.{Held, Longer}
+use Rattle.packet.specs.Polynomials.{Held, Longer, Reading}
 use Rattle.ideal.specs.Values.{SettingIs, IdealIs}
 use Rattle.ideal.specs.Results.{IdealMade, IsOne}
 use Rattle.ideal.specs.declared.setting.Setting.{Setting}
@@ -48,7 +49,7 @@ module _ (M : Meaning) (t : Setting) (x : List ℕ) where
 
     module _ (q : Poly) (q_held : Held M (body x first) q) where
       -- the ideal of the records q and p
-      pub ideal_read : (p : Poly) → Held M (body x second) p → (r : Result Ideal Refusal) → IdealMade M t q p r → OfferRead M t x r
+      ideal_read : (p : Poly) → Held M (body x second) p → (r : Result Ideal Refusal) → IdealMade M t q p r → OfferRead M t x r
       ideal_read p p_held (Ok a) made L A is =
           let h = made L A (poly_of L (body x first)) (poly_of L (body x second)) is (q_held.is L) (p_held.is L) in
           let (b, Q_is, P_is, standard, b_is) = h.1 in
@@ -58,7 +59,7 @@ module _ (M : Meaning) (t : Setting) (x : List ℕ) where
           before L A (refused (refusal_number f)) (made L A (poly_of L (body x first)) (poly_of L (body x second)) is (q_held.is L) (p_held.is L))
 
       -- P is longer than any record, and Q meets the same answers in its place
-      pub long_p : Longer M (body x second) → (r : Result Ideal Refusal) → IdealMade M t q q r → OfferRead M t x r
+      long_p : Longer M (body x second) → (r : Result Ideal Refusal) → IdealMade M t q q r → OfferRead M t x r
       long_p longer r made L A is = go r (made L A X X is (q_held.is L) (q_held.is L))
         where
           X : R L
@@ -80,6 +81,11 @@ module _ (M : Meaning) (t : Setting) (x : List ℕ) where
               (λ e. Answers (offer_questions L A x) (refused (refusal_number e)))
           go (Ok a) h = (let l = (answers_hold (ideal_asks L A X X) h.0).1.1.0 in absurd (omega arith))
           go (Err f) h = before L A (refused (refusal_number f)) (same (refusal_number f) h)
+
+      -- the ideal of Q and of what stands for P
+      pub either_p : (o : Option Poly) → Reading M (body x second) o → (r : Result Ideal Refusal) → IdealMade M t q (unwrap_or o q) r → OfferRead M t x r
+      either_p (Some p) held r made = ideal_read p held r made
+      either_p None longer r made = long_p longer r made
 
 -- the offer x is read as the ideal that the record i holds
 abbrev ReadAs : {M : Meaning} (L : Lawful M) (A : Accepted L) → List ℕ → Ideal → Type 0
@@ -117,6 +123,10 @@ module _ {M : Meaning} (L : Lawful M) (A : Accepted L) (x : List ℕ) (i : Ideal
 -- the questions behind those of the offer
 abbrev rest : {M : Meaning} (L : Lawful M) (A : Accepted L) → List ℕ → ℕ → List Question
 rest L A x δ = (Other L A x if_not 44) ∷ (OtherKey L A δ x if_not 45) ∷ []
+
+-- the end, keyed with a key
+abbrev pub with_key : {F : Type 0} → End F → Setting → Ideal → End F
+with_key e t k = record { field = e.field; mode = Keyed t; ideal = e.ideal; distance = e.distance; key = k }
 
 module _ {F : Type 0} {M : Meaning} (e : End F) (x : List ℕ) (t : Setting) (ok : InOpen e.mode) (holds : Holds e.mode t) where
   -- a refusal is one if it is so for every open state
@@ -158,10 +168,9 @@ module _ {F : Type 0} {M : Meaning} (e : End F) (x : List ℕ) (t : Setting) (ok
           accepted_then (offer_questions L A x) (rest L A x δ) (refused 45) h.0
           (inl (other L A x i h one asked o, inr (not_other_key L A x i h δ m (times L A A_is δ d) one' asked' o', refl)))))
 
-      pub taken : one' ≡ false → (after : End F) → after.mode ≡ Keyed t → after.ideal ≡ e.ideal → after.distance ≡ e.distance → after.key ≡ m.ideal
-          → Follows M e (take x) accepted [] after
-      taken o' after mode_is ideal_is distance_is key_is' = by_open e ok
-          (λ L s. (s' : State L) × Does L s (take x) accepted [] s' × EndIs L after s')
+      pub taken : one' ≡ false → (k : Ideal) → k ≡ m.ideal → Follows M e (take x) accepted [] (with_key e t k)
+      taken o' k k_is = by_open e ok
+          (λ L s. (s' : State L) × Does L s (take x) accepted [] s' × EndIs L (with_key e t k) s')
           (λ L A a δ is.
           (let A_is = setting_holds L e t (opened A a δ) is holds in
           let h = read L A A_is in
@@ -177,10 +186,10 @@ module _ {F : Type 0} {M : Meaning} (e : End F) (x : List ℕ) (t : Setting) (ok
             },
             (
               t,
-              mode_is,
+              refl,
               A_is,
-              subst (λ (j : Ideal). IdealIs L A j a) (sym ideal_is) is.3,
-              ap number distance_is ∙ is.4,
-              subst (λ (j : Ideal). IdealIs L A j τ.0.ideal) (sym key_is') τ.2.ideal_is,
+              is.3,
+              is.4,
+              subst (λ (j : Ideal). IdealIs L A j τ.0.ideal) (sym k_is) τ.2.ideal_is,
             ),
           )))

@@ -1,12 +1,12 @@
 -- The modes of an end, and the calls that each allows. None of this asks anything of the field.
 use Rattle.std.specs.Prelude.{◌≡◌, Err, Result}
 use Rattle.field.specs.declared.refusal.Refusal.{Refusal}
-use Rattle.field.specs.declared.refusal.Refusal.TheVariants.{InUse, NotReady, NothingToTell, NotOpen, NotKeyed, NotLoaded}
+use Rattle.field.specs.declared.refusal.Refusal.TheVariants.{NotReady, NothingToTell, NotOpen, NotKeyed, NotLoaded}
 use Rattle.ideal.specs.declared.setting.Setting.{Setting}
 use Rattle.end.specs.declared.modes.Mode.{Mode}
 use Rattle.end.specs.declared.modes.Mode.TheVariants.{Blank, Ready, Open, Keyed}
-use Rattle.end.specs.declared.modes.Request.{Request}
-use Rattle.end.specs.declared.modes.Request.TheVariants.{Load, Open as OpenIt, Tell, Take, Key, Find, Add}
+use Rattle.end.specs.declared.modes.Call.{Call}
+use Rattle.end.specs.declared.modes.Call.TheVariants.{Open as OpenIt, Tell, Take, Key, Find, Add}
 
 -- the end is blank or ready
 abbrev pub InBlankOrReady : Mode → Type 0
@@ -55,8 +55,7 @@ Holds (Open u) t = t ≡ u
 Holds (Keyed u) t = t ≡ u
 
 -- what a call asks of the mode, and the refusal where it is not so
-abbrev pub May : Mode → Request → Type 0
-May m Load = InBlankOrReady m
+abbrev pub May : Mode → Call → Type 0
 May m OpenIt = InReady m
 May m Tell = InOpenOrKeyed m
 May m Take = InOpen m
@@ -64,8 +63,7 @@ May m Key = InKeyed m
 May m Find = InLoaded m
 May m Add = InLoaded m
 
-abbrev pub untimely : Request → Refusal
-untimely Load = InUse
+abbrev pub untimely : Call → Refusal
 untimely OpenIt = NotReady
 untimely Tell = NothingToTell
 untimely Take = NotOpen

@@ -13,9 +13,6 @@ use Rattle.packet.specs.Contents.{setting_asked, offer_asked}
 use Rattle.ideal.specs.Values.{SettingIs, IdealIs}
 use Rattle.ideal.specs.declared.setting.Setting.{Setting}
 use Rattle.ideal.specs.declared.ideal.Ideal.{Ideal}
-use Rattle.place.specs.Lessened.{Left}
-use Rattle.place.specs.declared.place.Place.{Place}
-use Rattle.end.specs.declared.modes.Mode.TheVariants.{Open}
 use Rattle.end.specs.Modes.{InOpenOrKeyed}
 use Rattle.end.specs.Values.{EndIs, Empty}
 use Rattle.end.specs.declared.end.End.{End}
@@ -64,13 +61,6 @@ Loads M e x r e' = Follows M e (load x) (answer_of r) [] e'
 -- open leaves these bytes of the secret
 abbrev pub Opens : {F : Type 0} → Meaning → End F → List ℕ → Result Unit Refusal → List ℕ → End F → Type 0
 Opens M e n r w e' = Follows M e («open» n) (answer_of r) w e'
-
--- after is before, open with the setting t, at the place p of the number n: its ideal, and n less its offset
-pub record KeepsPlace {F : Type 0} (before : End F) (t : Setting) (n : List ℕ) (p : Place) (after : End F) : Type 0 where
-  pub rest : NotTheKey before after
-  pub mode : after.mode ≡ Open t
-  pub ideal : after.ideal ≡ p.ideal
-  pub distance : Left n p.offset after.distance
 
 -- the number has 1 to 32 bytes
 abbrev pub OneTo32 : List ℕ → Type 0

@@ -1,7 +1,7 @@
 // The modes of an end, and which call is allowed in which.
 ghost use Rattle.std.specs.Prelude.{◌≡◌, MatchResult};
-ghost use Rattle.field.specs.declared.refusal.Refusal.TheVariants.{NotLoaded};
-ghost use Rattle.end.specs.Modes.{InLoaded, Holds, May, untimely};
+ghost use Rattle.field.specs.declared.refusal.Refusal.TheVariants.{InUse};
+ghost use Rattle.end.specs.Modes.{Holds, InBlankOrReady, May, untimely};
 
 use field::Refusal;
 use ideal::Setting;
@@ -15,10 +15,9 @@ pub enum Mode {
     Keyed(Setting),
 }
 
-// The calls that are refused in some mode.
+// The calls that need a setting, and are refused in some mode. Load needs none, and is not among them.
 #[derive(Clone, Copy)]
-pub(crate) enum Request {
-    Load,
+pub(crate) enum Call {
     Open,
     Tell,
     Take,
@@ -27,34 +26,30 @@ pub(crate) enum Request {
     Add,
 }
 
-// The first question of every call, which is about the mode alone.
-pub(crate) fn allowed(mode: Mode, request: Request) -> Result<(), Refusal>
-    ensures { MatchResult result (λ _. May mode request) (λ e. ¬ (May mode request) × (e ≡ untimely request)) }
-{
-    match (mode, request) {
-        (Mode::Blank, Request::Load) => Ok(()),
-        (Mode::Ready(_), Request::Load | Request::Open | Request::Find | Request::Add) => Ok(()),
-        (Mode::Open(_), Request::Tell | Request::Take | Request::Find | Request::Add) => Ok(()),
-        (Mode::Keyed(_), Request::Tell | Request::Key | Request::Find | Request::Add) => Ok(()),
-        (_, Request::Load) => Err(Refusal::InUse),
-        (_, Request::Open) => Err(Refusal::NotReady),
-        (_, Request::Tell) => Err(Refusal::NothingToTell),
-        (_, Request::Take) => Err(Refusal::NotOpen),
-        (_, Request::Key) => Err(Refusal::NotKeyed),
-        (_, Request::Find | Request::Add) => Err(Refusal::NotLoaded),
-    }
-}
-
 impl Mode {
-    // The setting that is loaded.
-    pub(crate) fn setting(self) -> Result<Setting, Refusal>
-        ensures { MatchResult result (λ t. Holds self t) (λ e. ¬ (InLoaded self) × (e ≡ NotLoaded)) }
+    // The first question of a call, which is about the mode alone: the setting that the call works with, or its refusal.
+    pub(crate) fn setting_for(self, call: Call) -> Result<Setting, Refusal>
+        ensures { MatchResult result (λ t. May self call × Holds self t) (λ e. ¬ (May self call) × (e ≡ untimely call)) }
+    {
+        match (self, call) {
+            (Mode::Ready(s), Call::Open | Call::Find | Call::Add)
+            | (Mode::Open(s), Call::Tell | Call::Take | Call::Find | Call::Add)
+            | (Mode::Keyed(s), Call::Tell | Call::Key | Call::Find | Call::Add) => Ok(s),
+            (_, Call::Open) => Err(Refusal::NotReady),
+            (_, Call::Tell) => Err(Refusal::NothingToTell),
+            (_, Call::Take) => Err(Refusal::NotOpen),
+            (_, Call::Key) => Err(Refusal::NotKeyed),
+            (_, Call::Find | Call::Add) => Err(Refusal::NotLoaded),
+        }
+    }
+
+    // The first question of load. It is allowed to a blank end, which has no setting to answer, so it stands beside the others.
+    pub(crate) fn may_load(self) -> Result<(), Refusal>
+        ensures { MatchResult result (λ _. InBlankOrReady self) (λ e. ¬ (InBlankOrReady self) × (e ≡ InUse)) }
     {
         match self {
-            Mode::Blank => Err(Refusal::NotLoaded),
-            Mode::Ready(setting) => Ok(setting),
-            Mode::Open(setting) => Ok(setting),
-            Mode::Keyed(setting) => Ok(setting),
+            Mode::Blank | Mode::Ready(_) => Ok(()),
+            Mode::Open(_) | Mode::Keyed(_) => Err(Refusal::InUse),
         }
     }
 }

@@ -71,3 +71,5 @@ inverse_none p =
 pub inverse_above : (p a : ℕ) → p ≤ a → inverse_mod p a ≡ None
 unfolding inverse_mod
 inverse_above p a h = rw (le-ltb a p h) refl
+
+pub ruleset inverses = (inverse_is, inverse_none, inverse_above)

@@ -1,5 +1,5 @@
 -- The operations of an extension at codes, and elsewhere.
-use Rattle.std.proofs.Common.{◌≡◌, ℕ, ◌+◌, ◌*◌, ◌/◌, ◌%◌, ◌<◌, ◌≤◌, Some, None, sym, refl, ap, ◌∙◌, arith}
+use Rattle.std.proofs.Common.{◌≡◌, ℕ, ◌+◌, ◌*◌, ◌/◌, ◌%◌, ◌<◌, ◌≤◌, None, refl, arith}
 use Rattle.std.proofs.lemmas.Bool.{lt-ltb, le-ltb}
 use Rattle.std.proofs.lemmas.Bool.Decides.{nat_tests}
 use Rattle.field.specs.Meaning.{Meaning}
@@ -8,10 +8,6 @@ use Rattle.field.specs.Extensions.{packed, ext_sum, ext_opposite, ext_product, e
 pub packed_in : (q a b : ℕ) → a < q → b < q → packed q a b ≡ a + q * b
 unfolding packed
 packed_in q a b ha hb = rw (lt-ltb a q ha, lt-ltb b q hb) refl
-
-pub packed_out : (q a b : ℕ) → (q ≤ a → packed q a b ≡ 0) × (q ≤ b → packed q a b ≡ 0)
-unfolding packed
-packed_out q a b = (λ h. grind (arith, nat_tests), λ h. grind (arith, nat_tests))
 
 pub sum_in : (m : Meaning) (q x y : ℕ) → x < q * q → y < q * q → ext_sum m q x y ≡ packed q (m.sum (x % q) (y % q)) (m.sum (x / q) (y / q))
 unfolding ext_sum
@@ -45,17 +41,3 @@ inverse_in m q n x hx = rw (lt-ltb x (q * q) hx) refl
 pub inverse_out : (m : Meaning) (q n x : ℕ) → q * q ≤ x → ext_inverse m q n x ≡ None
 unfolding ext_inverse
 inverse_out m q n x h = rw (le-ltb x (q * q) h) refl
-
--- the norm as the code makes it, in five calls
-pub norm_is : (m : Meaning) (n x y r1 r2 r3 r4 r5 : ℕ) → r1 ≡ m.product y y → r2 ≡ m.product n r1 → r3 ≡ m.product x x → r4 ≡ m.opposite r2 → r5 ≡ m.sum r3 r4 →
-    r5 ≡ ext_norm m n x y
-norm_is m n x y r1 r2 r3 r4 r5 e1 e2 e3 e4 e5 = cc
-
-pub inverse_missing : (m : Meaning) (q n a r : ℕ) → a < q * q → r ≡ ext_norm m n (a % q) (a / q) → None ≡ m.inverse r → None ≡ ext_inverse m q n a
-inverse_missing m q n a r h e i = sym (inverse_in m q n a h ∙ ap (over_norm m q (a % q) (a / q)) (ap m.inverse (sym e) ∙ sym i))
-
-pub inverse_found : (m : Meaning) (q n a r i low neg high res : ℕ) → a < q * q → r ≡ ext_norm m n (a % q) (a / q) → Some i ≡ m.inverse r →
-    low ≡ m.product (a % q) i → neg ≡ m.opposite (a / q) → high ≡ m.product neg i → res ≡ packed q low high → Some res ≡ ext_inverse m q n a
-inverse_found m q n a r i low neg high res h e s l o k p =
-    let at : res ≡ packed q (m.product (a % q) i) (m.product (m.opposite (a / q)) i) = cc in
-    ap Some at ∙ sym (inverse_in m q n a h ∙ ap (over_norm m q (a % q) (a / q)) (ap m.inverse (sym e) ∙ sym s))

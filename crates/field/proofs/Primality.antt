@@ -1,8 +1,10 @@
 -- The ten moduli are prime: computed once, over the table. `suits_prime` serves any other odd prime up to 100003 too.
-use Rattle.std.proofs.Common.{◌≡◌, ℕ, zero, suc, ◌*◌, ◌/◌, ◌%◌, ◌<◌, ◌≤◌, Bool, true, false, not, ◌&&◌, ◌||◌, eqb, ltb, leb, List, [], ◌∷◌, length, get_or, sym, refl, ap, ◌∙◌, ⊎_elim, mul-le-mul_right, mul-le-mul, mul-le-mul_left, arith}
+use Rattle.std.proofs.Common.{◌≡◌, ℕ, ◌*◌, ◌/◌, ◌%◌, ◌<◌, ◌≤◌, Bool, true, not, ◌&&◌, ◌||◌, eqb, ltb, leb, List, [], ◌∷◌, sym, refl, ap, ◌∙◌, ⊎_elim, mul-le-mul_right, mul-le-mul, mul-le-mul_left, arith}
 use native.Mathlib.Nat.{div-add-mod, mul-mod_left}
 use Rattle.std.proofs.lemmas.Bool.Decides.{nat_tests}
-use Rattle.std.proofs.lemmas.Bool.{and_parts, or_cases, eqb-true, leb-true, cases_lt, true≢false, or_left, or_right, or_from, ne_eqb, eq-eqb}
+use Rattle.std.proofs.lemmas.Bool.{and_parts, or_cases, eqb-true, leb-true, cases_lt, true≢false}
+use Rattle.std.specs.Prelude.{◌==◌}
+use Rattle.std.specs.List.{list_all, list_any}
 use Rattle.field.specs.Primes.{moduli, listed, PrimeNumber}
 use Rattle.field.proofs.Below.{every_below, at_below}
 
@@ -14,12 +16,8 @@ fine p k = leb p k || (ltb k 2 || not (eqb (p % k) 0))
 unfoldable pub suits : ℕ → Bool
 suits p = (leb 3 p && leb p 100003) && every_below (fine p) 318
 
-all_suit : List ℕ → Bool
-all_suit [] = true
-all_suit (p ∷ ps) = suits p && all_suit ps
-
-computed : all_suit moduli ≡ true
-unfolding all_suit suits every_below
+computed : list_all suits moduli ≡ true
+unfolding suits every_below
 computed = refl
 
 from_fine : (p k : ℕ) → fine p k ≡ true → 2 ≤ k → k < p → p % k ≡ 0 → ⊥
@@ -52,24 +50,24 @@ suits_prime p h =
           (cases_lt d 318);
     }
 
-listed_suits : (p : ℕ) (ms : List ℕ) → all_suit ms ≡ true → listed p ms ≡ true → suits p ≡ true
-unfolding all_suit listed
+listed_suits : (p : ℕ) (ms : List ℕ) → list_all suits ms ≡ true → listed p ms ≡ true → suits p ≡ true
+unfolding listed
 listed_suits p [] h l = absurd (true≢false (sym l))
 listed_suits p (m ∷ ms) h l =
-    let parts = and_parts (suits m) (all_suit ms) h in
+    let parts = and_parts (suits m) (list_all suits ms) h in
     ⊎_elim (λ e. ap suits (sym (eqb-true m p e)) ∙ parts.0) (λ r. listed_suits p ms parts.1 r) (or_cases (eqb m p) (listed p ms) l)
 
 pub listed_prime : (p : ℕ) → listed p moduli ≡ true → PrimeNumber p
 listed_prime p l = suits_prime p (listed_suits p moduli computed l)
 
-pub listed_at : (p k : ℕ) (ms : List ℕ) → k < length ms → get_or ms k 0 ≡ p → listed p ms ≡ true
-unfolding listed
-listed_at p k [] l e = absurd (omega arith)
-listed_at p zero (m ∷ ms) l e = or_left (eqb m p) (listed p ms) (eq-eqb m p e)
-listed_at p (suc k) (m ∷ ms) l e = or_right (eqb m p) (listed p ms) (listed_at p k ms (omega arith) e)
+pub listed_low : (p : ℕ) → listed p moduli ≡ true → 3 ≤ p
+listed_low p l = (listed_prime p l).low
 
-pub not_listed : (p : ℕ) (ms : List ℕ) → ((k : ℕ) → k < length ms → get_or ms k 0 ≡ p → ⊥) → listed p ms ≡ false
+pub listed_high : (p : ℕ) → listed p moduli ≡ true → p ≤ 100003
+listed_high p l = (listed_prime p l).high
+
+-- the search of a slice for p
+pub listed_any : (p : ℕ) (ms : List ℕ) → list_any (λ m. m == p) ms ≡ listed p ms
 unfolding listed
-not_listed p [] never = refl
-not_listed p (m ∷ ms) never =
-    or_from (eqb m p) (listed p ms) (ne_eqb m p (λ e. never 0 (omega arith) e)) (not_listed p ms (λ k l e. never (suc k) (omega arith) e))
+listed_any p [] = refl
+listed_any p (m ∷ ms) = ap (λ b. m == p || b) (listed_any p ms)

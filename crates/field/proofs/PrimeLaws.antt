@@ -6,6 +6,7 @@ use Rattle.std.proofs.lemmas.Bool.Decides.{nat_tests}
 use Rattle.field.specs.Meaning.{Lawful}
 use Rattle.field.specs.Primes.{PrimeNumber, prime_meaning, sum_mod, opposite_mod, product_mod}
 use Rattle.field.proofs.Modular.{mod_product_assoc, mod_sum_assoc, mod_distributes}
+use Rattle.field.proofs.Primality.{listed_low, listed_high}
 use Rattle.field.proofs.Inverses.{inverse_exists, inverse_is, inverse_none, inverse_above}
 
 pub sum_in : (p a b : ℕ) → a < p → b < p → sum_mod p a b ≡ (a + b) % p
@@ -44,6 +45,11 @@ opposite_some p a h ha = let l : p - a < p = omega arith in opposite_in p a ha �
 
 pub opposite_zero : (p : ℕ) → 0 < p → opposite_mod p 0 ≡ 0
 opposite_zero p h = let e : p - 0 ≡ p = omega arith in opposite_in p 0 h ∙ ap (λ x. x % p) e ∙ mod_self p
+
+-- what the code's sums and opposites use, above a listed p
+pub ruleset sums = (sum_out, sum_below, sum_above, listed_high)
+
+pub ruleset opposites = (opposite_out, opposite_zero, opposite_some, listed_low)
 
 module _ (p : ℕ) (prime : PrimeNumber p) where
   pos : 0 < p

@@ -1,12 +1,10 @@
 // The prime fields: the codes below p, added and multiplied modulo p, where p is one of ten primes.
 //
-// The files: this one declares the field, `make` makes one from its modulus, `modular` computes modulo p, and `ops` has the
-// field's operations.
+// The files: this one declares the field, `make` makes one from its modulus, and `ops` has the field's operations.
 ghost use Rattle.std.specs.Prelude.{◌≡◌, true};
 ghost use Rattle.field.specs.Primes.{moduli, listed};
 
 mod make;
-mod modular;
 mod ops;
 
 // The field of modulus p.

@@ -1,90 +1,58 @@
 // Why a field, a packet, a setting or a call is refused. The rules put their questions in a fixed order, and the first one
 // with the answer no decides: each question has a variant here, with the number that goes out to callers.
-ghost use Rattle.std.specs.Prelude.{◌≡◌, Decides, ◌==◌};
+ghost use Rattle.std.specs.Prelude.{◌≡◌};
 ghost use Rattle.field.specs.Refusals.{refusal_number};
-ghost use Rattle.std.specs.Cmp.Rules.{comparing};
-ghost use Rattle.std.proofs.Common.{rules};
 
+use std::error::Error;
 use std::fmt;
 
-#[derive(Clone, Copy, Eq, Debug)]
+#[derive(Clone, Copy, PartialEq, Eq, Debug)]
 pub enum Refusal {
     // making a field
-    NotAModulus,
-    TooLarge,
-    NotACode,
-    Square,
+    NotAModulus = 1,
+    TooLarge = 2,
+    NotACode = 3,
+    Square = 4,
     // reading a packet
-    PacketTooShort,
-    WrongCount,
-    WrongKinds,
-    WrongLayout,
-    PartialCode,
-    CodeTooLarge,
-    LeadingZero,
+    PacketTooShort = 10,
+    WrongCount = 11,
+    WrongKinds = 12,
+    WrongLayout = 13,
+    PartialCode = 14,
+    CodeTooLarge = 15,
+    LeadingZero = 16,
     // loading a setting
-    WrongFieldSize,
-    WrongDegree,
-    SettingNotMonic,
-    CommonFactor,
+    WrongFieldSize = 20,
+    WrongDegree = 21,
+    SettingNotMonic = 22,
+    CommonFactor = 23,
     // calling an end
-    InUse,
-    NotReady,
-    WrongSecretLength,
-    TrivialSecret,
-    NothingToTell,
-    BufferTooSmall,
-    NotOpen,
-    NotKeyed,
-    NotLoaded,
+    InUse = 30,
+    NotReady = 31,
+    WrongSecretLength = 32,
+    TrivialSecret = 33,
+    NothingToTell = 34,
+    BufferTooSmall = 35,
+    NotOpen = 36,
+    NotKeyed = 37,
+    NotLoaded = 38,
     // taking an ideal or a place
-    NotReduced,
-    IdealNotMonic,
-    NotLower,
-    NotAnIdeal,
-    TrivialOffer,
-    TrivialKey,
-    OffsetTooLarge,
+    NotReduced = 40,
+    IdealNotMonic = 41,
+    NotLower = 42,
+    NotAnIdeal = 43,
+    TrivialOffer = 44,
+    TrivialKey = 45,
+    OffsetTooLarge = 46,
 }
 
 impl Refusal {
-    // The number of the question that had the answer no.
+    // The number of the question that had the answer no. No two refusals have one number.
     pub fn number(self) -> u16
-        ensures { result ≡ refusal_number self }
+        ensures value { result ≡ refusal_number self }
+        ensures alone { (other : Refusal) → refusal_number other ≡ result → other ≡ self }
     {
-        match self {
-            Refusal::NotAModulus => 1,
-            Refusal::TooLarge => 2,
-            Refusal::NotACode => 3,
-            Refusal::Square => 4,
-            Refusal::PacketTooShort => 10,
-            Refusal::WrongCount => 11,
-            Refusal::WrongKinds => 12,
-            Refusal::WrongLayout => 13,
-            Refusal::PartialCode => 14,
-            Refusal::CodeTooLarge => 15,
-            Refusal::LeadingZero => 16,
-            Refusal::WrongFieldSize => 20,
-            Refusal::WrongDegree => 21,
-            Refusal::SettingNotMonic => 22,
-            Refusal::CommonFactor => 23,
-            Refusal::InUse => 30,
-            Refusal::NotReady => 31,
-            Refusal::WrongSecretLength => 32,
-            Refusal::TrivialSecret => 33,
-            Refusal::NothingToTell => 34,
-            Refusal::BufferTooSmall => 35,
-            Refusal::NotOpen => 36,
-            Refusal::NotKeyed => 37,
-            Refusal::NotLoaded => 38,
-            Refusal::NotReduced => 40,
-            Refusal::IdealNotMonic => 41,
-            Refusal::NotLower => 42,
-            Refusal::NotAnIdeal => 43,
-            Refusal::TrivialOffer => 44,
-            Refusal::TrivialKey => 45,
-            Refusal::OffsetTooLarge => 46,
-        }
+        self as u16
     }
 
     // What was found, in words.
@@ -128,23 +96,11 @@ impl Refusal {
     }
 }
 
-// No two refusals have one number.
-impl PartialEq for Refusal {
-    ghost eq = { λ x y. refusal_number x == refusal_number y };
-
-    ghost laws = { Prim.search (comparing, rules) };
-
-    fn eq(&self, other: &Refusal) -> bool
-        ensures value { result ≡ (refusal_number self.now == refusal_number other.now) }
-        ensures decides { Decides result (refusal_number self.now ≡ refusal_number other.now) }
-    {
-        self.number() == other.number()
-    }
-}
-
 // For people; programs go by the number.
 impl fmt::Display for Refusal {
     fn fmt<W: fmt::Write>(&self, f: &mut fmt::Formatter<W>) -> fmt::Result {
         f.write_str(self.words())
     }
 }
+
+impl Error for Refusal {}

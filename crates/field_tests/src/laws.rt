@@ -3,44 +3,26 @@ use field::Field;
 
 // Whether every code has its inverse, but for 0, which has none.
 pub fn inverses<F: Field>(f: &F) -> bool {
-    for a in 0..f.size() {
-        if !inverse(f, a) {
-            return false;
-        }
-    }
-    true
+    (0..f.size()).all(|a| inverse(f, a))
 }
 
 // Whether every law holds.
 pub fn laws<F: Field>(f: &F) -> bool {
     let q = f.size();
-    if q < 3 || f.add(1, 1) == 0 {
-        return false;
-    }
-    for a in 0..q {
-        if !(single(f, a) && outside(f, a, q) && outside(f, a, u32::MAX) && pairs(f, a)) {
-            return false;
-        }
-    }
-    true
+    q >= 3
+        && f.add(1, 1) != 0
+        && (0..q).all(|a| single(f, a)
+            && outside(f, a, q)
+            && outside(f, a, u32::MAX)
+            && pairs(f, a))
 }
 
 fn pairs<F: Field>(f: &F, a: u32) -> bool {
-    for b in 0..f.size() {
-        if !(pair(f, a, b) && triples(f, a, b)) {
-            return false;
-        }
-    }
-    true
+    (0..f.size()).all(|b| pair(f, a, b) && triples(f, a, b))
 }
 
 fn triples<F: Field>(f: &F, a: u32, b: u32) -> bool {
-    for c in 0..f.size() {
-        if !triple(f, a, b, c) {
-            return false;
-        }
-    }
-    true
+    (0..f.size()).all(|c| triple(f, a, b, c))
 }
 
 fn inverse<F: Field>(f: &F, a: u32) -> bool {

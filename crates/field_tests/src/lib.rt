@@ -2,8 +2,8 @@
 // since a crate with tests is proved twice.
 #![tactic(auto)]
 
-#[cfg(test)]
-mod broken;
+// for the tests of the layers above too
+pub mod broken;
 #[cfg(test)]
 mod laws;
 #[cfg(test)]

@@ -4,14 +4,6 @@ use crate::laws::{inverses, laws};
 use field::{Extension, Field, Prime, Refusal};
 use std::test::Fail;
 
-// The number of a refusal, or 0 where a field was made.
-fn refused<F: Drop>(made: Result<F, Refusal>) -> u16 {
-    match made {
-        Ok(_) => 0,
-        Err(refusal) => refusal.number(),
-    }
-}
-
 // The field of 81 elements: 3, extended by a root of 2 and then by a root of the element with code 4.
 fn eighty_one() -> Result<Extension<Extension<Prime>>, Refusal> {
     Extension::new(Extension::new(Prime::new(3)?, 2)?, 4)
@@ -67,20 +59,30 @@ fn nine_elements(rt: HostRuntime) -> Result<(), Fail> {
 #[test]
 fn only_the_moduli(rt: HostRuntime) {
     for p in [0, 1, 2, 4, 9, 19, 10006, 100001, u32::MAX] {
-        assert_eq!(rt; refused(Prime::new(p)), 1);
+        assert_eq!(rt; Prime::new(p).err(), Some(Refusal::NotAModulus));
     }
     for p in [3, 5, 7, 11, 13, 17, 251, 10007, 65521, 100003] {
-        assert_eq!(rt; refused(Prime::new(p)), 0);
+        assert!(rt; Prime::new(p).is_ok());
     }
 }
 
 #[test]
 fn extensions_refused(rt: HostRuntime) -> Result<(), Fail> {
-    assert_eq!(rt; refused(Extension::new(Prime::new(65521)?, 70000)), 2);
-    assert_eq!(rt; refused(Extension::new(Prime::new(10007)?, 10007)), 3);
-    assert_eq!(rt; refused(Extension::new(Prime::new(10007)?, 10006)), 0);
-    assert_eq!(rt; refused(Extension::new(Prime::new(3)?, 1)), 4);
-    assert_eq!(rt; refused(Extension::new(eighty_one()?, 0)), 4);
+    let f = Prime::new(10007)?;
+    assert_eq!(rt;
+        Extension::new(Prime::new(65521)?, 70000).err(),
+        Some(Refusal::TooLarge)
+    );
+    assert_eq!(rt; Extension::new(f, 10007).err(), Some(Refusal::NotACode));
+    assert!(rt; Extension::new(f, 10006).is_ok());
+    assert_eq!(rt;
+        Extension::new(Prime::new(3)?, 1).err(),
+        Some(Refusal::Square)
+    );
+    assert_eq!(rt;
+        Extension::new(eighty_one()?, 0).err(),
+        Some(Refusal::Square)
+    );
     Ok(())
 }
 

@@ -8,19 +8,18 @@ use Rattle.algebra.specs.Codes.{R, K}
 use Rattle.algebra.specs.Ideals.{StandardForm}
 use Rattle.algebra.specs.Products.{Product as ProductOf}
 use Rattle.algebra.proofs.Ideal.{remainder_exact}
-use Rattle.algebra.proofs.Product.{product_alive, product_exact}
+use Rattle.algebra.proofs.Product.{joined, product_alive, product_exact}
 use Rattle.rules.specs.Settings.{Accepted, setting, Ideals}
 use Rattle.poly.specs.Values.{size, Is}
 use Rattle.poly.specs.Rules.{Sum, Difference, Product, Division, Common}
 use Rattle.poly.specs.declared.poly.Poly.{Poly}
 use Rattle.ideal.specs.Values.{IdealIs}
-use Rattle.ideal.specs.Parts.{Residue, Shared, Parted}
+use Rattle.ideal.specs.Parts.{Cofactor, Residue}
 use Rattle.ideal.specs.Results.{Standardized, Multiplied}
 use Rattle.ideal.specs.declared.setting.Setting.{Setting}
 use Rattle.ideal.specs.declared.ideal.Ideal.{Ideal}
-use Rattle.ideal.specs.declared.ideal.parts.Parts.{Parts}
-use Rattle.ideal.proofs.Records.{sum_is, difference_is, product_is, division_is, common_is}
-use Rattle.ideal.proofs.Products.{residue, joined, product_of, near, form_near}
+use Rattle.ideal.proofs.Records.{sum_is, difference_is, product_is, division_is, exact_is, common_is}
+use Rattle.ideal.proofs.Products.{residue, product_of, near, form_near}
 
 pub residue_is : {M : Meaning} {a b n k s l t product j u : Poly}
     → Division M a n k s → (0 < size n → size s < size n) → Division M b n l t → (0 < size n → size t < size n)
@@ -102,39 +101,56 @@ module _ {M : Meaning} (L : Lawful M) (A : Accepted L) (x y : Ideals L A) where
       finished s a b c (U ⊗ X) X'.s Y Z X'.k t.k u.k t.s u.s parts X'.sums t.sums u.sums (product_is L pq ha hb (omega arith))
       (sum_is L sp hi.P_is (product_is L pW ha (sum_is L sT t.is u.is) (omega arith))) standard
 
-pub shared_made : {M : Meaning} {i j : Ideal} {x z g sum u y s : Poly}
-    → Common M i.q j.q x z g → Sum M i.p j.p sum → Common M g sum u y s → Shared M i j u x y s
-shared_made first sum second L A x y hi hj =
-    let g = common_is L first hi.Q_is hj.Q_is in
-    let h = common_is L second g.d_is (sum_is L sum hi.P_is hj.P_is) in
-    record {
-      U = h.u;
-      X = g.u;
-      Y = h.v;
-      Z = (K L).r.◌⊗◌ h.u g.v;
-      s = h.d;
-      U_is = h.u_is;
-      X_is = g.u_is;
-      Y_is = h.v_is;
-      s_is = h.d_is;
-      sums = joined (K L).r h.d g.d h.u h.v g.u g.v x.Q y.Q ((K L).r.◌⊕◌ x.P y.P) h.sums g.sums;
-      left = divides_trans (K L) h.d g.d x.Q h.left g.left;
-      right = divides_trans (K L) h.d g.d y.Q h.left g.right;
-      middle = h.right;
-    }
+  -- s divides Q of both ideals and the sum of their P, and is U·X·Qa + Z·Qb + Y·(Pa + Pb) for some Z
+  pub record DivisorOf (pu px py ps : Poly) : Type 0 where
+    pub U : R L
+    pub X : R L
+    pub Y : R L
+    pub Z : R L
+    pub s : R L
+    pub U_is : Is L pu U
+    pub X_is : Is L px X
+    pub Y_is : Is L py Y
+    pub s_is : Is L ps s
+    pub sums : s ≡ U ⊗ X ⊗ x.Q ⊕ Z ⊗ y.Q ⊕ Y ⊗ (x.P ⊕ y.P)
+    pub left : Divides r s x.Q
+    pub right : Divides r s y.Q
+    pub middle : Divides r s (x.P ⊕ y.P)
 
-pub multiplied : {M : Meaning} {i j o : Ideal} {parts : Parts} {X' Δ t v T W p q : Poly}
-    → Residue M parts.u parts.x parts.b X' → Difference M j.p i.p Δ → Residue M X' Δ parts.b t → Residue M parts.y parts.c parts.b v
-    → Sum M t v T → Product M parts.a T W → Sum M i.p W p → Product M parts.a parts.b q → Standardized M q p o
-    → (s : Setting) → Parted M s i j parts → Multiplied M s i j o parts.s
-multiplied mX dΔ mt mv sT pW sp pq standard s parted L A x y hs hi hj tx ty lx ly =
-    let d = parted.shared L A x y hi hj in
+  divisor_of : {i j : Ideal} {px z g sum pu py s : Poly} → Common M i.q j.q px z g → Sum M i.p j.p sum → Common M g sum pu py s
+      → IdealIs L A i x → IdealIs L A j y → DivisorOf pu px py s
+  divisor_of first sum second hi hj =
+      let g = common_is L first hi.Q_is hj.Q_is in
+      let h = common_is L second g.d_is (sum_is L sum hi.P_is hj.P_is) in
+      record {
+        U = h.u;
+        X = g.u;
+        Y = h.v;
+        Z = h.u ⊗ g.v;
+        s = h.d;
+        U_is = h.u_is;
+        X_is = g.u_is;
+        Y_is = h.v_is;
+        s_is = h.d_is;
+        sums = joined r h.d g.d h.u h.v g.u g.v x.Q y.Q (x.P ⊕ y.P) h.sums g.sums;
+        left = divides_trans (K L) h.d g.d x.Q h.left g.left;
+        right = divides_trans (K L) h.d g.d y.Q h.left g.right;
+        middle = h.right;
+      }
+
+pub multiplied : {M : Meaning} {σ : Setting} {i j o : Ideal} {px z g sum pu py s a b c k l X' Δ t v T W p q : Poly}
+    → Common M i.q j.q px z g → Sum M i.p j.p sum → Common M g sum pu py s
+    → Division M i.q s a k → (0 < size s → size k < size s) → Division M j.q s b l → (0 < size s → size l < size s) → Cofactor M σ i.p i.q c
+    → Residue M pu px b X' → Difference M j.p i.p Δ → Residue M X' Δ b t → Residue M py c b v
+    → Sum M t v T → Product M a T W → Sum M i.p W p → Product M a b q → Standardized M q p o → Multiplied M σ i j o s
+multiplied first sum second da la db lb rest mX dΔ mt mv sT pW sp pq standard L A x y hs hi hj tx ty lx ly =
+    let d = divisor_of L A x y first sum second hi hj in
     let alive = right_alive (K L) d.left.0 d.s (λ e. x.alive (d.left.1 ∙ e)) in
     let low = tx.small in
     let high = A.high in
-    let a = parted.left L x.Q d.s hi.Q_is d.s_is alive d.left in
-    let b = parted.right L y.Q d.s hj.Q_is d.s_is alive d.right in
-    let c = parted.rest L A x.P x.Q hs hi.P_is hi.Q_is (omega arith) x.alive x.exact in
+    let a = exact_is L (division_is L da la hi.Q_is d.s_is alive) d.left alive in
+    let b = exact_is L (division_is L db lb hj.Q_is d.s_is alive) d.right alive in
+    let c = rest L A x.P x.Q hs hi.P_is hi.Q_is (omega arith) x.alive x.exact in
     let (Qc, Pc, z, is_product, is_standard, hz) = worked L A x y hi hj lx ly d.s a.w b.w c.w d.X d.U d.Y d.Z
     record { sums = d.sums; left = a.exact; right = b.exact; middle = d.middle; rest = c.exact }
     a.is b.is c.is d.X_is d.U_is d.Y_is mX dΔ mt mv sT pW sp pq standard in

@@ -1,4 +1,4 @@
--- Products: the multipliers, what may be reduced modulo B, and the standard form.
+-- Products: what may be reduced modulo B, and the standard form.
 use Rattle.std.proofs.Common.{◌≡◌, [], ◌∷◌, ◌∙◌, ap₂}
 use Rattle.ring.proofs.Ring.{CommRing, Divides}
 use Rattle.ring.proofs.Quote.{quote, auto}
@@ -19,10 +19,6 @@ module _ {R : Type 0} (r : CommRing R) where
   pub residue : (x y n k s l t j u : R) → x ≡ k ⊗ n ⊕ s → y ≡ l ⊗ n ⊕ t → s ⊗ t ≡ j ⊗ n ⊕ u → x ⊗ y ≡ (k ⊗ y ⊕ s ⊗ l ⊕ j) ⊗ n ⊕ u
   residue x y n k s l t j u hx hy h =
       by_hyp₃ r y hx s hy 𝟙 h (auto r (x ∷ y ∷ n ∷ k ∷ s ∷ l ∷ t ∷ j ∷ u ∷ []) (search quote depth 20) tt)
-
-  -- the multipliers of Qa, Qb and p from those of two greatest common divisors
-  pub joined : (s g u y x z Qa Qb p : R) → s ≡ u ⊗ g ⊕ y ⊗ p → g ≡ x ⊗ Qa ⊕ z ⊗ Qb → s ≡ u ⊗ x ⊗ Qa ⊕ u ⊗ z ⊗ Qb ⊕ y ⊗ p
-  joined s g u y x z Qa Qb p h e = by_hyp₂ r 𝟙 h u e (auto r (s ∷ g ∷ u ∷ y ∷ x ∷ z ∷ Qa ∷ Qb ∷ p ∷ []) (search quote depth 20) tt)
 
   -- of T the remainder by B is enough, and of X on the way to it: A·B divides the difference
   pub near : (A B c X X' Y P Δ k j i t u : R) → X ≡ k ⊗ B ⊕ X' → X' ⊗ Δ ≡ j ⊗ B ⊕ t → Y ⊗ c ≡ i ⊗ B ⊕ u

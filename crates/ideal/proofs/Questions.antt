@@ -48,13 +48,6 @@ module _ {M : Meaning} (L : Lawful M) where
               (at_is L h (size p - 1) ∙ ap ((K L).coef x) z ∙ one ∙ sym (code_one L)),
         )
 
-  module _ {p q : Poly} {y x : R L} (h : Is L p y) (k : Is L q x) where
-    pub lower_yes : size p < size q → (K L).len y < (K L).len x
-    lower_yes l = omega (arith, size_is L h, size_is L k)
-
-    pub lower_no : ¬ (size p < size q) → ¬ ((K L).len y < (K L).len x)
-    lower_no unlike l = unlike (omega (arith, size_is L h, size_is L k))
-
   -- one greatest common divisor tells of all common divisors
   module _ {x y : R L} {u v g : Poly} (c : Combined L x y u v g) where
     pub coprime_yes : size g ≡ 1 → Coprime L x y

@@ -2,16 +2,31 @@
 use Rattle.std.proofs.Common.{◌≡◌, ℕ, ◌+◌, ◌-◌, ◌<◌, ◌≤◌, subst, arith}
 use Rattle.field.specs.Meaning.{Meaning, Lawful}
 use Rattle.algebra.specs.Codes.{K}
+use Rattle.algebra.specs.Ideals.{Standard}
 use Rattle.algebra.specs.Steps.{StepTo}
 use Rattle.algebra.specs.Places.{Reduces, reduced, reduce}
 use Rattle.algebra.proofs.Step.{step_big, step_short, step_falls}
 use Rattle.rules.specs.Settings.{Accepted, setting, Ideals}
 use Rattle.poly.specs.Values.{size}
-use Rattle.ideal.specs.Parts.{ComesTo, Came}
+use Rattle.ideal.specs.Values.{SettingIs, IdealIs}
 use Rattle.ideal.specs.Results.{Stepped, Reduced}
 use Rattle.ideal.specs.declared.setting.Setting.{Setting}
 use Rattle.ideal.specs.declared.ideal.Ideal.{Ideal}
 use Rattle.ideal.proofs.Records.{size_is}
+
+module _ {M : Meaning} (L : Lawful M) (A : Accepted L) where
+  -- the reduction of x has come to y after i steps, with the sum `saved` so far; Q has become shorter by i at least
+  pub record ComesTo (x y : Ideals L A) (i saved : ℕ) : Type 0 where
+    pub standard : Standard (K L) (setting L A) y
+    pub onward : (z : Ideals L A) (more : ℕ) → Reduces (K L) (setting L A) y z more → Reduces (K L) (setting L A) x z (saved + more)
+    pub shorter : (K L).len y.Q + i ≤ A.m + A.m
+    pub little : saved + (K L).len y.Q ≤ A.m + A.m
+
+-- the reduction of a, which may be as long as a product of two reduced ideals, has come to b after i steps
+pub record Came (M : Meaning) (s : Setting) (a b : Ideal) (i saved : ℕ) : Type 0 where
+  pub comes : (L : Lawful M) (A : Accepted L) (x : Ideals L A) → SettingIs L A s → IdealIs L A a x
+      → Standard (K L) (setting L A) x → (K L).len x.Q ≤ A.m + A.m
+      → (y : Ideals L A) × ComesTo L A x y i saved × IdealIs L A b y
 
 pub starts : (M : Meaning) (s : Setting) (a : Ideal) → Came M s a a 0 0
 starts M s a = record {

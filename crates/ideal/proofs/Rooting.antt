@@ -99,19 +99,21 @@ module _ {M : Meaning} (L : Lawful M) (A : Accepted L) where
   top_one : (K L).coef A.d A.m ≡ (K L).k.𝟙
   top_one = let (n, l, t) = A.d_monic in let z : n ≡ A.m = omega (arith, A.d_len) in subst (λ (j : ℕ). (K L).coef A.d j ≡ (K L).k.𝟙) z t
 
-  -- the record has the coefficients of d from the top down to that of x^(m−n)
+  -- the record has the coefficients of d from the top down to that of x^n
   pub record Filled (p : Poly) (n : ℕ) : Type 0 where
     pub part : R L
     pub is : Is L p part
-    pub close : (K L).len (A.d ⊕ ⊖ part) + n ≤ A.m
+    pub close : (K L).len (A.d ⊕ ⊖ part) ≤ n
+    pub within : n ≤ A.m
 
-  pub start : (p : Poly) (i : ℕ) → i ≡ A.m → at p i ≡ 1 → ((n : ℕ) → n ≢ i → at p n ≡ 0) → Filled p 0
+  pub start : (p : Poly) (i : ℕ) → i ≡ A.m → at p i ≡ 1 → ((n : ℕ) → n ≢ i → at p n ≡ 0) → Filled p i
   unfolding poly_ring
   start p i e there others = record {
     part = value L p;
     is = self L p (term_low L 1 i p there others (one_low L));
     close = let l = top_cancel (K L) A.d (value L p) A.m (omega (arith, A.d_len)) (omega (arith, term_len L 1 i p there others))
         (top_one ∙ sym (code_one L) ∙ sym (subst (λ (j : ℕ). (K L).coef (value L p) j ≡ code L 1) e (term_coef L 1 i p there others))) in omega arith;
+    within = omega arith;
   }
 
   -- what is filled is no longer than d
@@ -120,14 +122,14 @@ module _ {M : Meaning} (L : Lawful M) (A : Accepted L) where
   filled_size {p} {n} F =
       let e = A.d ⊕ ⊖ F.part in
       let same : F.part ≡ A.d ⊕ ⊖ e = auto (K L).r (A.d ∷ F.part ∷ []) (search quote depth 20) tt in
-      let l = len_sub (K L) A.d e (A.m + 1) (omega (arith, A.d_len)) (omega (arith, F.close)) in
+      let l = len_sub (K L) A.d e (A.m + 1) (omega (arith, A.d_len)) (omega (arith, F.close, F.within)) in
       omega (arith, len_is L F.is, ap (K L).len same)
 
   -- a turn of the loop
-  module _ (D d product rest term r : Poly) (a c h half i n : ℕ) (D_is : Is L D A.D) (m_is : half ≡ A.m) (F : Filled d n) (turn : i + n + 1 ≡ A.m) where
+  module _ (D d product rest term r : Poly) (a c h half i : ℕ) (D_is : Is L D A.D) (m_is : half ≡ A.m) (F : Filled d (i + 1)) where
     pub again : Product M d d product → Difference M D product rest → a ≡ at rest (half + i) → c ≡ M.product a h
         → (h < M.size) × ((K L).k.◌⊗◌ ((K L).k.◌⊕◌ (K L).k.𝟙 (K L).k.𝟙) (code L h) ≡ (K L).k.𝟙)
-        → at term i ≡ c → ((k : ℕ) → k ≢ i → at term k ≡ 0) → Sum M d term r → Filled r (n + 1)
+        → at term i ≡ c → ((k : ℕ) → k ≢ i → at term k ≡ 0) → Sum M d term r → Filled r i
     unfolding poly_ring Polynomials
     again times minus a_is taken halving there others plus =
         let v = F.part in
@@ -140,16 +142,17 @@ module _ {M : Meaning} (L : Lawful M) (A : Accepted L) where
         term_coef L c i term there others ∙ ap (code L) c_is
         ∙ code_product L (at rest (A.m + i)) h (left.low (A.m + i)) halving.0
         ∙ ap (λ y. (ring_c L).◌⊗◌ y (code L h)) (at_is L left (A.m + i)) in
-        let l = next (K L) A.D A.d A.m A.d_len top_one A.near v u i (code L h) (omega arith) (omega (arith, F.close))
+        let l = next (K L) A.D A.d A.m A.d_len top_one A.near v u i (code L h) (omega (arith, F.within)) (omega (arith, F.close))
         (term_len L c i term there others) halving.1 wants in
         record {
           part = v ⊕ u;
           is = plus L v u F.is (self L term (term_low L c i term there others low));
-          close = omega arith;
+          close = l;
+          within = omega (arith, F.within);
         }
 
   -- filled down to the coefficient of x^0
-  pub finish : (p : Poly) (n : ℕ) → n ≡ A.m → Filled p n → Is L p A.d
+  pub finish : (p : Poly) (n : ℕ) → n ≡ 0 → Filled p n → Is L p A.d
   finish p n e F =
       let z : (K L).len (A.d ⊕ ⊖ F.part) ≡ 0 = omega (arith, F.close) in
       moved L F.is (sym (sub_self→eq (K L).r A.d F.part ((K L).zero_len (A.d ⊕ ⊖ F.part) z)))

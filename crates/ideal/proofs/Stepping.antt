@@ -11,7 +11,7 @@ use Rattle.rules.specs.Settings.{Accepted, setting, Ideals}
 use Rattle.poly.specs.Values.{size, Is}
 use Rattle.poly.specs.Rules.{Sum, Difference, Division}
 use Rattle.poly.specs.declared.poly.Poly.{Poly}
-use Rattle.ideal.specs.Parts.{Turned, Cofactor}
+use Rattle.ideal.specs.Parts.{Cofactor}
 use Rattle.ideal.specs.Results.{Standardized, Stepped}
 use Rattle.ideal.specs.declared.setting.Setting.{Setting}
 use Rattle.ideal.specs.declared.ideal.Ideal.{Ideal}
@@ -54,24 +54,17 @@ module _ {M : Meaning} (L : Lawful M) (A : Accepted L) (x : Ideals L A) (k s : R
     split = ⊗-comm x.Q Q₁ ∙ sym e;
   }
 
-pub turned_made : {M : Meaning} {s : Setting} {a : Ideal} {root sum k r p : Poly}
-    → root ≡ s.root → Sum M a.p root sum → Division M sum a.q k r → (0 < size a.q → size r < size a.q)
-    → Difference M root r p → Turned M s a p
-turned_made e sum division less next L A x hs hx =
+pub stepped : {M : Meaning} {s : Setting} {a b : Ideal} {root sum k r p q twice : Poly} {far : ℕ}
+    → root ≡ s.root → Sum M a.p root sum → Division M sum a.q k r → (0 < size a.q → size r < size a.q) → Difference M root r p
+    → Cofactor M s p a.q q → Sum M p root twice → far ≡ size twice → Standardized M q p b → Stepped M s a b far
+stepped e sum division less next cofactor twice far standard L A x hs hx tidy small =
     let hd = subst (λ (v : Poly). Is L v A.d) (sym e) hs.d_is in
-    let w = division_is L division less (sum_is L sum hx.P_is hd) hx.Q_is x.alive in
-    record { k = w.k; s = w.s; sums = w.sums; short = w.short; is = difference_is L next hd w.s_is }
-
-pub stepped : {M : Meaning} {s : Setting} {b : Ideal} {root q p twice : Poly} {far : ℕ}
-    → root ≡ s.root → Sum M p root twice → far ≡ size twice → Standardized M q p b
-    → (a : Ideal) → Turned M s a p → Cofactor M s p a.q q → Stepped M s a b far
-stepped e twice far standard a turned cofactor L A x hs hx tidy small =
-    let hd = subst (λ (v : Poly). Is L v A.d) (sym e) hs.d_is in
-    let t = turned L A x hs hx in
+    let t = division_is L division less (sum_is L sum hx.P_is hd) hx.Q_is x.alive in
     let P : R L = P₁ L A x t.k t.s t.sums t.short in
-    let c = cofactor L A P x.Q hs t.is hx.Q_is (square_len L A x t.k t.s t.sums t.short small) x.alive
+    let P_is = difference_is L next hd t.s_is in
+    let c = cofactor L A P x.Q hs P_is hx.Q_is (square_len L A x t.k t.s t.sums t.short small) x.alive
     (split L A x t.k t.s t.sums t.short) in
     let σ = step_by L A x t.k t.s t.sums t.short c.w c.exact in
-    let (y, form, hy) = standard L A c.w P c.is t.is
+    let (y, form, hy) = standard L A c.w P c.is P_is
     (baby_alive (K L) (setting L A) x.Q x.P c.w P σ) (baby_exact (K L) (setting L A) x.Q x.P c.w P σ) in
-    (y, record { Q₁ = c.w; P₁ = P; steps_to = σ; standard_to = form; far_is = far ∙ sym (size_is L (sum_is L twice t.is hd)) }, hy)
+    (y, record { Q₁ = c.w; P₁ = P; steps_to = σ; standard_to = form; far_is = far ∙ sym (size_is L (sum_is L twice P_is hd)) }, hy)

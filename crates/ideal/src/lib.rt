@@ -5,8 +5,11 @@
 // until Q has degree below m.
 #![tactic(auto)]
 
+mod curve;
 mod ideal;
+mod monic;
 mod setting;
 
+pub use curve::Curve;
 pub use ideal::Ideal;
 pub use setting::Setting;

@@ -7,7 +7,7 @@ use std::io::Read;
 use std::process::ExitCode;
 
 fn show_line(rt: &HostRuntime, plan: &Plan) -> io::Result<()> {
-    let d = Shown(plan.setting.root());
+    let d = Shown(plan.curve.setting.root());
     println!(rt; "d = {d}")?;
     for stop in Walk::new(plan) {
         println!(rt; "{stop}")?;
@@ -18,7 +18,7 @@ fn show_line(rt: &HostRuntime, plan: &Plan) -> io::Result<()> {
 fn show_places(rt: &HostRuntime, plan: &Plan, text: &str) -> io::Result<()> {
     for line in text.lines() {
         if let Some(request) = request_on(line) {
-            let place = request.place(&plan.field, &plan.setting);
+            let place = request.place(&plan.curve);
             let asked = line.trim();
             let answer = Placed(&place);
             println!(rt; "{asked}: {answer}")?;
@@ -27,28 +27,25 @@ fn show_places(rt: &HostRuntime, plan: &Plan, text: &str) -> io::Result<()> {
     Ok(())
 }
 
-fn answer(rt: &HostRuntime, text: &str) -> io::Result<ExitCode> {
-    match read(text) {
-        Ok(plan) => {
-            show_line(rt, &plan)?;
-            show_places(rt, &plan, text)?;
-            Ok(ExitCode::SUCCESS)
-        }
-        Err(fault) => refuse(rt, fault),
-    }
+// The text of an input, and the plan that it asks for.
+fn asked(input: &[u8]) -> Result<(&str, Plan), Fault> {
+    let text = text_of(input)?;
+    Ok((text, read(text)?))
 }
 
-// One line that says what is wrong, and the exit status 1.
-fn refuse(rt: &HostRuntime, fault: Fault) -> io::Result<ExitCode> {
-    eprintln!(rt; "{fault}")?;
-    Ok(ExitCode::FAILURE)
-}
-
+// Where something is wrong with the input, one line says what, and the exit status is 1.
 fn main(rt: HostRuntime) -> io::Result<ExitCode> {
     let mut input = Vec::new(rt.alloc());
     rt.stdin().read_to_end(&mut input)?;
-    match text_of(input.as_slice()) {
-        Ok(text) => answer(&rt, text),
-        Err(fault) => refuse(&rt, fault),
+    match asked(input.as_slice()) {
+        Ok((text, plan)) => {
+            show_line(&rt, &plan)?;
+            show_places(&rt, &plan, text)?;
+            Ok(ExitCode::SUCCESS)
+        }
+        Err(fault) => {
+            eprintln!(rt; "{fault}")?;
+            Ok(ExitCode::FAILURE)
+        }
     }
 }

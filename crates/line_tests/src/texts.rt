@@ -3,30 +3,27 @@ use field::Refusal;
 use poly::Poly;
 use script::{Fault, Problem, Shown};
 use std::alloc::Global;
-use std::process::Abort;
 use std::test::Fail;
 
-// That the polynomial of these coefficients, the lowest first, is written so.
-fn written(rt: &impl Abort, heap: Global, coeffs: &[u32], text: &str) -> Result<(), Fail> {
-    let Some(p) = Poly::from(coeffs) else {
-        return Err(Fail::new("too many coefficients"));
-    };
+// The polynomial of these coefficients, the lowest first, as it is printed.
+fn written(heap: Global, coeffs: &[u32]) -> Result<String, Fail> {
+    let p = Poly::try_from(coeffs)?;
     let shown = Shown(&p);
-    assert_eq!(rt; format!(in heap; "{shown}")?.as_str(), text);
-    Ok(())
+    Ok(format!(in heap; "{shown}")?)
 }
 
 #[test]
 fn polynomials(rt: HostRuntime) -> Result<(), Fail> {
     let heap = rt.alloc();
-    written(&rt, heap, &[], "0")?;
-    written(&rt, heap, &[1], "1")?;
-    written(&rt, heap, &[3], "3")?;
-    written(&rt, heap, &[3, 1], "x + 3")?;
-    written(&rt, heap, &[0, 1], "x")?;
-    written(&rt, heap, &[0, 4], "4x")?;
-    written(&rt, heap, &[1, 1, 0, 0, 1], "x^4 + x + 1")?;
-    written(&rt, heap, &[4, 0, 0, 2], "2x^3 + 4")
+    assert_eq!(rt; written(heap, &[])?.as_str(), "0");
+    assert_eq!(rt; written(heap, &[1])?.as_str(), "1");
+    assert_eq!(rt; written(heap, &[3])?.as_str(), "3");
+    assert_eq!(rt; written(heap, &[3, 1])?.as_str(), "x + 3");
+    assert_eq!(rt; written(heap, &[0, 1])?.as_str(), "x");
+    assert_eq!(rt; written(heap, &[0, 4])?.as_str(), "4x");
+    assert_eq!(rt; written(heap, &[1, 1, 0, 0, 1])?.as_str(), "x^4 + x + 1");
+    assert_eq!(rt; written(heap, &[4, 0, 0, 2])?.as_str(), "2x^3 + 4");
+    Ok(())
 }
 
 #[test]
@@ -41,9 +38,7 @@ fn faults(rt: HostRuntime) -> Result<(), Fail> {
         line: 7,
         what: Problem::TooLarge(1000000),
     };
-    assert_eq!(rt;
-        format!(in rt.alloc(); "{fault}")?.as_str(),
-        "line 7: a number is larger than 1000000"
-    );
+    let text = "line 7: a number is larger than 1000000";
+    assert_eq!(rt; format!(in rt.alloc(); "{fault}")?.as_str(), text);
     Ok(())
 }

@@ -5,9 +5,9 @@ ghost use Rattle.field.specs.Primes.{prime_meaning, inverse_mod};
 
 use field::Field;
 
-// The inverse of each element; 0 has none.
-const INVERSES: [u32; 19] = [
-    0, 1, 10, 13, 5, 4, 16, 11, 12, 17, 2, 7, 8, 3, 15, 14, 6, 9, 18,
+// The inverses of the elements from 1 on.
+const INVERSES: [u32; 18] = [
+    1, 10, 13, 5, 4, 16, 11, 12, 17, 2, 7, 8, 3, 15, 14, 6, 9, 18,
 ];
 
 #[derive(Clone, Copy)]
@@ -30,10 +30,7 @@ impl Field for Nineteen {
     }
 
     fn add(&self, a: u32, b: u32) -> u32 {
-        if a >= 19 {
-            return 0;
-        }
-        if b >= 19 {
+        if a >= 19 || b >= 19 {
             return 0;
         }
         let sum = a + b;
@@ -41,32 +38,20 @@ impl Field for Nineteen {
     }
 
     fn neg(&self, a: u32) -> u32 {
-        if a == 0 {
-            return 0;
-        }
-        if a >= 19 {
+        if a == 0 || a >= 19 {
             return 0;
         }
         19 - a
     }
 
     fn mul(&self, a: u32, b: u32) -> u32 {
-        if a >= 19 {
-            return 0;
-        }
-        if b >= 19 {
+        if a >= 19 || b >= 19 {
             return 0;
         }
         a * b % 19
     }
 
     fn inv(&self, a: u32) -> Option<u32> {
-        if a == 0 {
-            return None;
-        }
-        if a >= 19 {
-            return None;
-        }
-        Some(INVERSES[a as usize])
+        INVERSES.get(a.checked_sub(1)? as usize).copied()
     }
 }

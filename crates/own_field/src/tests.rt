@@ -1,18 +1,14 @@
-// An exchange above the example field.
+// An exchange above the example field. Its buffers are fixed, as a terminal with no heap has them.
 use crate::Nineteen;
 use end::End;
-use field::Refusal;
 use packet::write_setting;
 use poly::Poly;
 use std::test::Fail;
 
 // An end that is newly loaded with x^6 + x + 1.
-fn loaded() -> Result<End<Nineteen>, Refusal> {
+fn loaded() -> Result<End<Nineteen>, Fail> {
     let field = Nineteen::new();
-    let radicand = match Poly::from(&[1, 1, 0, 0, 0, 0, 1]) {
-        Some(d) => d,
-        None => Poly::zero(),
-    };
+    let radicand = Poly::try_from(&[1, 1, 0, 0, 0, 0, 1][..])?;
     let mut packet = [0u8; 64];
     let len = write_setting(&field, &radicand, &mut packet)?;
     let mut end = End::new(field);

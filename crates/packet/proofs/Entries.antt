@@ -1,12 +1,8 @@
 -- Entries of the table of contents, as the rules read them.
-use Rattle.std.proofs.Common.{◌≡◌, ℕ, suc, ◌+◌, ◌<◌, ◌≤◌, List, [], ◌∷◌, length, get_or, drop, ap, ◌∙◌, subst, ap₂, arith, length-drop}
+use Rattle.std.proofs.Common.{◌≡◌, ℕ, suc, ◌+◌, ◌<◌, ◌≤◌, List, [], ◌∷◌, length, get_or, drop, ap, ◌∙◌, arith, length-drop}
 use Rattle.std.proofs.lemmas.List.{get_or-drop, drop-drop}
-use Rattle.rules.specs.Questions.{accepted, Answered}
-use Rattle.rules.specs.Packets.{Bytes, byte, kind, start, long, packet_asks, Holds, packet}
-use Rattle.rules.proofs.Answering.{hold_answers, answered}
-use Rattle.packet.specs.declared.body.Body.{Body}
-use Rattle.packet.specs.declared.body.Sort.{Sort}
-use Rattle.packet.specs.Bodies.{Entry, first_kind, second_kind, kind_of, bytes_of, Parts}
+use Rattle.rules.specs.Packets.{Bytes, byte, kind, start, long}
+use Rattle.packet.specs.Bodies.{Entry}
 
 -- the entry at the byte e of a packet
 pub record EntryAt (x : List ℕ) (e k s n : ℕ) (rest : List ℕ) : Type 0 where
@@ -34,24 +30,3 @@ entry_at x t rest e k s n d h =
 pub all_bytes : (x : List ℕ) → ((i : ℕ) → get_or x i 0 < 256) → Bytes x
 all_bytes [] h = tt
 all_bytes (b ∷ x) h = (h 0, all_bytes x (λ i. h (suc i)))
-
--- what is read under the kinds of a sort
-pub record Named (s : Sort) (x : List ℕ) (b c : Body) : Type 0 where
-  pub answers : Answered (packet_asks (first_kind s) (second_kind s) x) accepted
-  pub parts : Parts s x b c
-  pub whole : x ≡ packet (first_kind s) (second_kind s) (bytes_of b) (bytes_of c)
-
-pub named : (s : Sort) (x : List ℕ) (b c : Body) (k l : ℕ) → (k ≡ first_kind s) × (l ≡ second_kind s) → kind_of b ≡ first_kind s → kind_of c ≡ second_kind s
-    → Holds k l x (bytes_of b) (bytes_of c) → x ≡ packet k l (bytes_of b) (bytes_of c) → Named s x b c
-named s x b c k l e p q h w =
-    let g : Holds (first_kind s) (second_kind s) x (bytes_of b) (bytes_of c) =
-    subst (λ (i : ℕ). Holds i (second_kind s) x (bytes_of b) (bytes_of c)) e.0 (subst (λ (i : ℕ). Holds k i x (bytes_of b) (bytes_of c)) e.1 h) in
-    let f = h.asked.1.1.1.0 in
-    record {
-      answers = answered (packet_asks (first_kind s) (second_kind s) x) accepted (hold_answers (packet_asks (first_kind s) (second_kind s) x) g.asked);
-      parts = record {
-        one = record { kind_is = p; inside = omega arith; bytes_are = h.one };
-        other = record { kind_is = q; inside = omega arith; bytes_are = h.other };
-      };
-      whole = w ∙ ap₂ (λ (i j : ℕ). packet i j (bytes_of b) (bytes_of c)) e.0 e.1;
-    }

@@ -4,3 +4,4 @@ pub mod Asked
 pub mod Records
 pub mod Buffers
 pub mod Packed
+pub mod Turns

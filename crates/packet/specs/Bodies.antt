@@ -3,6 +3,8 @@ use Rattle.std.specs.Prelude.{◌≡◌, ℕ, ◌+◌, ◌*◌, ◌≤◌, List,
 use Rattle.rules.specs.Packets.{first, second, start, long}
 use Rattle.packet.specs.declared.body.Body.{Body}
 use Rattle.packet.specs.declared.body.Body.TheVariants.{Size, D, Q, P}
+use Rattle.packet.specs.declared.body.Kind.{Kind}
+use Rattle.packet.specs.declared.body.Kind.TheVariants as kind
 use Rattle.packet.specs.declared.body.Sort.{Sort}
 use Rattle.packet.specs.declared.body.Sort.TheVariants.{Setting, Offer}
 
@@ -13,6 +15,13 @@ pub record Entry (t : List ℕ) (kind start len : ℕ) (rest : List ℕ) : Type 
   pub start_is : start ≡ slice_index t 1 * 256 + slice_index t 2
   pub len_is : len ≡ slice_index t 3 * 256 + slice_index t 4
   pub rest_is : rest ≡ drop 5 t
+
+-- the number of a kind
+abbrev pub kind_number : Kind → ℕ
+kind_number kind.Size = 1
+kind_number kind.D = 2
+kind_number kind.Q = 3
+kind_number kind.P = 4
 
 -- the kinds of a sort: 1 is the field's size, 2 is D, 3 is Q, 4 is P
 abbrev pub first_kind : Sort → ℕ
@@ -25,10 +34,10 @@ second_kind Offer = 4
 
 -- the kind that names a body
 abbrev pub kind_of : Body → ℕ
-kind_of (Size p) = 1
-kind_of (D p) = 2
-kind_of (Q p) = 3
-kind_of (P p) = 4
+kind_of (Size p) = kind_number kind.Size
+kind_of (D p) = kind_number kind.D
+kind_of (Q p) = kind_number kind.Q
+kind_of (P p) = kind_number kind.P
 
 -- the bytes that a body lends
 abbrev pub bytes_of : Body → List ℕ

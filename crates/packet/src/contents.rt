@@ -1,7 +1,7 @@
 // Whole packets: the questions of a packet and those of its bodies, in the order in which a setting is loaded and an offer taken.
-ghost use Rattle.std.specs.Prelude.{◌≡◌, length, IfOk, Decides};
+ghost use Rattle.std.specs.Prelude.{IfOk};
 ghost use Rattle.rules.specs.Questions.{Answered, answer_of};
-ghost use Rattle.rules.specs.Packets.{number, body as body_at, first, second};
+ghost use Rattle.rules.specs.Packets.{body as body_at, first, second};
 ghost use Rattle.packet.specs.Polynomials.{Reading};
 ghost use Rattle.packet.specs.Contents.{setting_asked, offer_asked};
 
@@ -11,23 +11,13 @@ use super::reader::read;
 use field::{Field, Refusal};
 use poly::Poly;
 
-// Whether a body is four bytes with the value `q`.
-fn is_size(q: u32, body: &[u8]) -> bool
-    ensures { Decides result ((length body.now ≡ 4) × (number body.now ≡ q)) }
-{
-    match body {
-        [b3, b2, b1, b0] => u32::from_be_bytes([*b3, *b2, *b1, *b0]) == q,
-        _ => false,
-    }
-}
-
 // The polynomial D of a setting packet for the field `f`; `None` where it has more codes than a record holds.
 pub fn read_setting<F: Field>(f: &F, packet: &[u8]) -> Result<Option<Poly>, Refusal>
     ensures answers { Answered (setting_asked (F.meaning f.now).size packet.now) (answer_of result) }
     ensures reading { IfOk result (λ d. Reading (F.meaning f.now) (body_at packet.now second) d) }
 {
     let (size, d) = read(Sort::Setting, packet)?;
-    if !is_size(f.size(), size.bytes()) {
+    if size.bytes() != f.size().to_be_bytes().as_slice() {
         return Err(Refusal::WrongFieldSize);
     }
     read_poly(f, d.bytes())

@@ -14,7 +14,7 @@ mod table;
 mod theorems;
 mod writer;
 
-pub use body::{Body, Sort};
+pub use body::{Body, Kind, Sort};
 pub use codes::read_poly;
 pub use contents::{read_offer, read_setting};
 pub use reader::read;

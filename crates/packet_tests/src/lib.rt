@@ -3,10 +3,14 @@
 #![tactic(auto)]
 
 #[cfg(test)]
+mod examples;
+#[cfg(test)]
 mod judge;
 #[cfg(test)]
 mod long;
 #[cfg(test)]
 mod tests;
+// for the tests of the layers above too
+pub mod worked;
 #[cfg(test)]
 mod written;

@@ -1,5 +1,6 @@
 // Bodies about as long as the record of a polynomial, and as long as a body can be. Over the field of 10007 * 10007 elements,
 // whose codes have four bytes.
+use crate::examples::{answer, wide_field};
 use crate::judge;
 use field::{Extension, Field, Prime};
 use packet::{Sort, read, read_offer, read_poly};
@@ -7,87 +8,71 @@ use poly::Poly;
 use std::process::Abort;
 use std::test::Fail;
 
-fn wide_field() -> Result<Extension<Prime>, Fail> {
-    Ok(Extension::new(Prime::new(10007)?, 10006)?)
-}
-
 // Sees that there is a record just where there are at most 128 codes.
-fn held(rt: &impl Abort, found: Option<Poly>, bytes: usize) -> Result<(), Fail> {
+fn held(rt: &impl Abort, found: Option<Poly>, bytes: usize) {
     match found {
         Some(p) => {
             assert!(rt; bytes <= 512);
             assert_eq!(rt; 4 * p.len(), bytes);
-            Ok(())
         }
-        None => {
-            assert!(rt; bytes > 512);
-            Ok(())
-        },
+        None => assert!(rt; bytes > 512),
     }
 }
 
-// Sees that a body is answered as the second reader has it.
-fn alike(rt: &impl Abort, f: &Extension<Prime>, body: &[u8]) -> Result<u16, Fail> {
+// Sees that a body is answered as wanted, and that the second reader has it so.
+fn answered(rt: &impl Abort, f: &Extension<Prime>, body: &[u8], wanted: Result<(), u16>) {
     assert!(rt; body.len() < 65536);
-    let wanted = judge::body(f.size(), body, 0, body.len() as u16);
-    match read_poly(f, body) {
-        Ok(found) => {
-            assert_eq!(rt; wanted, 0);
-            held(rt, found, body.len())?;
-        }
-        Err(refusal) => assert_eq!(rt; refusal.number(), wanted),
+    assert_eq!(rt; judge::body(f.size(), body, 0, body.len() as u16), wanted);
+    let found = read_poly(f, body);
+    assert_eq!(rt; answer(found), wanted);
+    if let Ok(found) = found {
+        held(rt, found, body.len());
     }
-    Ok(wanted)
 }
 
 // Bytes 1, so that each code is below the size, with a last code that is too large where `large`, and with a first code 0 where
-// `zero`.
+// `zero`: two changes that are made or not, in all four ways. The longest array, of which a test takes `n` bytes.
 fn codes(n: usize, large: bool, zero: bool) -> [u8; 520] {
     let mut x = [1u8; 520];
     if large && n >= 4 && n <= 520 {
         x[n - 4] = 0xFF;
     }
     if zero {
-        x[0] = 0;
-        x[1] = 0;
-        x[2] = 0;
-        x[3] = 0;
+        x[0..4].fill(0);
     }
     x
 }
 
 // Bodies of `n` bytes: as they should be, with a leading 0, with a last code that is too large, and with both.
-fn variants(rt: &impl Abort, f: &Extension<Prime>, n: usize) -> Result<(), Fail> {
+fn variants(rt: &impl Abort, f: &Extension<Prime>, n: usize) {
     assert!(rt; n <= 520);
-    for (large, zero, number) in [
-        (false, false, 0),
-        (true, false, 15),
-        (false, true, 16),
-        (true, true, 15),
+    for (large, zero, whole) in [
+        (false, false, Ok(())),
+        (true, false, Err(15)),
+        (false, true, Err(16)),
+        (true, true, Err(15)),
     ] {
-        let x = codes(n, large, zero);
         let wanted = if n % 4 != 0 {
-            14
+            Err(14)
         } else if n == 0 {
-            0
+            Ok(())
         } else if n == 4 && zero {
-            16
+            Err(16)
         } else {
-            number
+            whole
         };
-        assert_eq!(rt; alike(rt, f, &x[0..n])?, wanted);
+        answered(rt, f, &codes(n, large, zero)[0..n], wanted);
     }
-    Ok(())
 }
 
 #[test]
 fn bodies_about_a_record(rt: HostRuntime) -> Result<(), Fail> {
     let f = wide_field()?;
     for n in [0usize, 4, 5] {
-        variants(&rt, &f, n)?;
+        variants(&rt, &f, n);
     }
     for n in 508..521usize {
-        variants(&rt, &f, n)?;
+        variants(&rt, &f, n);
     }
     Ok(())
 }
@@ -97,13 +82,8 @@ fn bodies_about_a_record(rt: HostRuntime) -> Result<(), Fail> {
 fn codes_go_down(rt: HostRuntime) -> Result<(), Fail> {
     let f = wide_field()?;
     let body = [0, 0, 0, 3, 0, 0, 2, 1, 5, 0, 0, 7];
-    let Some(p) = read_poly(&f, &body)? else {
-        return Err(Fail::new("no record"));
-    };
-    assert_eq!(rt; p.len(), 3);
-    assert_eq!(rt; p.coeff(2), 3);
-    assert_eq!(rt; p.coeff(1), 513);
-    assert_eq!(rt; p.coeff(0), 83886087);
+    let p = read_poly(&f, &body)?.ok_or("no record")?;
+    assert_eq!(rt; p.codes(), [83886087, 513, 3].as_slice());
     Ok(())
 }
 
@@ -112,33 +92,20 @@ fn codes_go_down(rt: HostRuntime) -> Result<(), Fail> {
 fn longest_bodies(rt: HostRuntime) -> Result<(), Fail> {
     let f = wide_field()?;
     let mut x = [1u8; 65535];
-    assert_eq!(rt; alike(&rt, &f, &x)?, 14);
-    assert_eq!(rt; alike(&rt, &f, &x[0..65532])?, 0);
+    answered(&rt, &f, &x, Err(14));
+    answered(&rt, &f, &x[0..65532], Ok(()));
     x[65528] = 0xFF;
-    assert_eq!(rt; alike(&rt, &f, &x[0..65532])?, 15);
+    answered(&rt, &f, &x[0..65532], Err(15));
     x[65528] = 1;
-    x[0] = 0;
-    x[1] = 0;
-    x[2] = 0;
-    x[3] = 0;
-    assert_eq!(rt; alike(&rt, &f, &x[0..65532])?, 16);
+    x[0..4].fill(0);
+    answered(&rt, &f, &x[0..65532], Err(16));
     Ok(())
 }
 
 // A packet with an empty first body, and a second one of 65280 bytes and `len`.
 fn longest(len: u8) -> [u8; 65546] {
     let mut x = [1u8; 65546];
-    x[0] = 2;
-    x[1] = 3;
-    x[2] = 0;
-    x[3] = 11;
-    x[4] = 0;
-    x[5] = 0;
-    x[6] = 4;
-    x[7] = 0;
-    x[8] = 11;
-    x[9] = 255;
-    x[10] = len;
+    x[0..11].copy_from_slice(&[2, 3, 0, 11, 0, 0, 4, 0, 11, 255, len]);
     x
 }
 
@@ -147,25 +114,17 @@ fn longest_packets(rt: HostRuntime) -> Result<(), Fail> {
     let f = wide_field()?;
     let x = longest(255);
     assert_eq!(rt; read(Sort::Offer, &x)?.1.bytes().len(), 65535);
-    assert_eq!(rt; refused(&f, &x), 14);
-    assert_eq!(rt; refused(&f, &x[0..65545]), 13);
+    refused(&rt, &f, &x, 14);
+    refused(&rt, &f, &x[0..65545], 13);
     let y = longest(252);
-    assert_eq!(rt; refused(&f, &y), 13);
+    refused(&rt, &f, &y, 13);
     let (_, p) = read_offer(&f, &y[0..65543])?;
-    held(&rt, p, 65532)
+    held(&rt, p, 65532);
+    Ok(())
 }
 
-// The number of the refusal of an offer, as both readers have it, or 0.
-fn refused(f: &Extension<Prime>, x: &[u8]) -> u16 {
-    let wanted = judge::offer(f.size(), x);
-    match read_offer(f, x) {
-        Ok(_) => wanted,
-        Err(refusal) => {
-            if refusal.number() == wanted {
-                wanted
-            } else {
-                9999
-            }
-        }
-    }
+// Sees that both readers refuse an offer with this number.
+fn refused(rt: &impl Abort, f: &Extension<Prime>, x: &[u8], number: u16) {
+    assert_eq!(rt; judge::offer(f.size(), x), Err(number));
+    assert_eq!(rt; answer(read_offer(f, x)), Err(number));
 }

@@ -1,3 +1,4 @@
+pub mod Steps
 pub mod Numbers
 pub mod Borrowing
 pub mod Making

@@ -1,5 +1,6 @@
 -- Multiples of a place, digit by digit.
 use Rattle.std.proofs.Common.{◌≡◌, ℕ, ◌+◌, ◌*◌, Some, None, Option, subst, arith}
+use Rattle.std.specs.Option.{unwrap_or}
 use Rattle.field.specs.Meaning.{Meaning, Lawful}
 use Rattle.algebra.specs.Codes.{K}
 use Rattle.algebra.specs.Places.{LawfulPlace}
@@ -11,7 +12,7 @@ use Rattle.rules.specs.Places.{Places}
 use Rattle.ideal.specs.Values.{SettingIs}
 use Rattle.ideal.specs.declared.setting.Setting.{Setting}
 use Rattle.place.specs.Values.{PlaceIs, HoldsTimes}
-use Rattle.place.specs.Results.{Added, SoFar}
+use Rattle.place.specs.Results.{Added, NoTimes, SoFar}
 use Rattle.place.specs.declared.place.Place.{Place}
 
 module _ {M : Meaning} (L : Lawful M) (A : Accepted L) where
@@ -21,6 +22,11 @@ module _ {M : Meaning} (L : Lawful M) (A : Accepted L) where
 
   pub nothing : (π : Places L A) {n : ℕ} {o : Option Place} → o ≡ None → SoFar L A π n o → n ≡ 0
   nothing π {n} e h = subst (λ (o : Option Place). SoFar L A π n o) e h
+
+  -- what is there, or place 0
+  pub settled : {π : Places L A} {n : ℕ} (o : Option Place) {z : Place} → NoTimes z → SoFar L A π n o → HoldsTimes L A π n (unwrap_or o z)
+  settled {π} {n} None none h = none M L A π n h
+  settled (Some p) none h = h
 
   module _ {π : Places L A} (l : LawfulPlace (K L) (setting L A) π) {p : Place} (hp : PlaceIs L A p π) where
     once : HoldsTimes L A π 1 p

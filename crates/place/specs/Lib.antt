@@ -1,3 +1,4 @@
+pub mod Digits
 pub mod Values
 pub mod Results
 pub mod Lessened

@@ -43,12 +43,6 @@ Fitted s a off r = MatchResult r
     (λ p. (off < step_length s a) × (p.ideal ≡ a) × (p.offset ≡ off))
     (λ e. (step_length s a ≤ off) × (e ≡ OffsetTooLarge))
 
--- the place of a reduced ideal and an offset that it has room for
-abbrev pub PlaceFits : Setting → Ideal → ℕ → Place → Type 0
-PlaceFits s a off r = (M : Meaning) (L : Lawful M) (A : Accepted L) (x : Ideals L A) → SettingIs L A s → IdealIs L A a x
-    → Standard (K L) (setting L A) x
-    → LawfulPlace (K L) (setting L A) (place (K L) (setting L A) x off) × PlaceIs L A r (place (K L) (setting L A) x off)
-
 -- the question of an offset: is it below m − deg Q? If not, 46
 abbrev pub offset_asks : {M : Meaning} (L : Lawful M) → Accepted L → R L → ℕ → List Question
 offset_asks L A Q off = (off + (K L).len Q ≤ A.m if_not 46) ∷ []
@@ -110,7 +104,7 @@ AddedAt M s p q r = (L : Lawful M) (A : Accepted L) (i j : ℕ) → SettingIs L 
     → HoldsAt L A (i + j) r
 
 -- from place t to place b·t + c
-abbrev pub Moved : Meaning → Setting → ℕ → ℕ → Place → Place → Type 0
+unfoldable pub Moved : Meaning → Setting → ℕ → ℕ → Place → Place → Type 0
 Moved M s b c p r = (L : Lawful M) (A : Accepted L) (t : ℕ) → SettingIs L A s → HoldsAt L A t p → HoldsAt L A (t * b + c) r
 
 -- r is place n, n being given by bytes
@@ -125,10 +119,6 @@ SoFar L A π n o = MatchOption o (n ≡ 0) (λ q. HoldsTimes L A π n q)
 abbrev pub Raised : Meaning → Setting → Place → ℕ → ℕ → Option Place → Option Place → Type 0
 Raised M s p b c o r = (L : Lawful M) (A : Accepted L) (π : Places L A) (n : ℕ) → SettingIs L A s → PlaceIs L A p π
     → LawfulPlace (K L) (setting L A) π → SoFar L A π n o → SoFar L A π (n * b + c) r
-
--- r is what is there, or place 0
-abbrev pub Settled : Option Place → Place → Type 0
-Settled o r = (M : Meaning) (L : Lawful M) (A : Accepted L) (π : Places L A) (n : ℕ) → SoFar L A π n o → HoldsTimes L A π n r
 
 -- r is n times the lawful place p, n being given by bytes
 abbrev pub Repeated : Meaning → Setting → Place → List ℕ → Place → Type 0

@@ -4,6 +4,7 @@
 // reduction and a walk over what is left; place n is found, and a place is multiplied by n, from the binary digits of n.
 #![tactic(auto)]
 
+mod digits;
 mod number;
 mod place;
 

@@ -8,7 +8,7 @@ mod giant;
 mod make;
 mod multiple;
 
-#[derive(Clone, Copy)]
+#[derive(Clone, Copy, PartialEq, Eq)]
 pub struct Place {
     ideal: Ideal,
     // from 0 to m − deg Q − 1

@@ -9,6 +9,8 @@ mod bytes;
 mod large;
 #[cfg(test)]
 mod laws;
+// for the tests of the layers above too
+pub mod settings;
 #[cfg(test)]
 mod tests;
 #[cfg(test)]

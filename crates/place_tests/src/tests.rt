@@ -1,7 +1,6 @@
 // A dozen small settings, two of degree 50, and examples worked by hand.
 use crate::large;
-use crate::laws::{setting, whole_ring};
-use crate::walker::same;
+use crate::laws::{curve, whole_ring};
 use field::{Extension, Field, Prime, Refusal};
 use ideal::Ideal;
 use place::{Place, lessen};
@@ -13,14 +12,6 @@ const SMALLEST: [u32; 5] = [1, 1, 0, 0, 1];
 
 fn nine() -> Result<Extension<Prime>, Refusal> {
     Extension::new(Prime::new(3)?, 2)
-}
-
-// The polynomial of a few coefficients, the lowest first.
-fn of(cs: &[u32]) -> Poly {
-    match Poly::from(cs) {
-        Some(p) => p,
-        None => Poly::zero(),
-    }
 }
 
 #[test]
@@ -86,17 +77,17 @@ fn degree_10_over_3(rt: HostRuntime) -> Result<(), Fail> {
 #[test]
 fn degree_50_over_10007(rt: HostRuntime) -> Result<(), Fail> {
     let f = Prime::new(10007)?;
-    let setting = large::degree_50(&f)?;
-    large::sums(&rt, &f, &setting, 7);
-    large::sums(&rt, &f, &setting, 11);
-    large::agreement(&rt, &f, &setting, 5)
+    let curve = large::degree_50(&f)?;
+    large::sums(&rt, &curve, 7);
+    large::sums(&rt, &curve, 11);
+    large::agreement(&rt, &curve, 5)
 }
 
 #[test]
 fn degree_50_over_100140049(rt: HostRuntime) -> Result<(), Fail> {
     let f = Extension::new(Prime::new(10007)?, 10006)?;
-    let setting = large::degree_50(&f)?;
-    large::sums(&rt, &f, &setting, 3);
+    let curve = large::degree_50(&f)?;
+    large::sums(&rt, &curve, 3);
     Ok(())
 }
 
@@ -104,12 +95,13 @@ fn degree_50_over_100140049(rt: HostRuntime) -> Result<(), Fail> {
 #[test]
 fn sum_with_a_divisor(rt: HostRuntime) -> Result<(), Fail> {
     let f = Prime::new(5)?;
-    let setting = setting(&f, &SMALLEST)?;
-    let two = Place::find(&f, &setting, &[2]);
-    let eight = Place::find(&f, &setting, &[8]);
-    assert!(rt; *two.ideal().q() == of(&[1, 1]) && *two.ideal().p() == of(&[1]));
-    assert!(rt; *eight.ideal().q() == of(&[1, 1]) && *eight.ideal().p() == of(&[4]));
-    let ten = two.add(&f, &setting, &eight);
+    let curve = curve(&f, &SMALLEST)?;
+    let two = Place::find(&curve, &[2]);
+    let eight = Place::find(&curve, &[8]);
+    let q = Poly::try_from(&[1, 1][..])?;
+    assert!(rt; *two.ideal().q() == q && *two.ideal().p() == Poly::constant(1));
+    assert!(rt; *eight.ideal().q() == q && *eight.ideal().p() == Poly::constant(4));
+    let ten = two.add(&curve, &eight);
     assert!(rt; ten.ideal().is_one());
     assert_eq!(rt; ten.offset(), 1);
     Ok(())
@@ -119,12 +111,12 @@ fn sum_with_a_divisor(rt: HostRuntime) -> Result<(), Fail> {
 #[test]
 fn gap_equal_to_a_length(rt: HostRuntime) -> Result<(), Fail> {
     let f = Prime::new(5)?;
-    let setting = setting(&f, &SMALLEST)?;
-    let one = Place::find(&f, &setting, &[1]);
+    let curve = curve(&f, &SMALLEST)?;
+    let one = Place::find(&curve, &[1]);
     assert!(rt; one.ideal().is_one());
     assert_eq!(rt; one.offset(), 1);
-    let two = one.add(&f, &setting, &one);
-    assert!(rt; *two.ideal().q() == of(&[1, 1]));
+    let two = one.add(&curve, &one);
+    assert!(rt; *two.ideal().q() == Poly::try_from(&[1, 1][..])?);
     assert_eq!(rt; two.offset(), 0);
     Ok(())
 }
@@ -133,13 +125,13 @@ fn gap_equal_to_a_length(rt: HostRuntime) -> Result<(), Fail> {
 #[test]
 fn zeros_in_front(rt: HostRuntime) -> Result<(), Fail> {
     let f = Prime::new(5)?;
-    let setting = setting(&f, &SMALLEST)?;
-    let place = Place::find(&f, &setting, &[0, 1, 44]);
-    assert!(rt; same(&place, &Place::find(&f, &setting, &[1, 44])));
-    assert!(rt; same(&Place::find(&f, &setting, &[]), &Place::origin()));
-    let multiple = place.multiple(&f, &setting, &[0, 0, 7]);
-    assert!(rt; same(&multiple, &place.multiple(&f, &setting, &[7])));
-    assert!(rt; same(&place.multiple(&f, &setting, &[]), &Place::origin()));
+    let curve = curve(&f, &SMALLEST)?;
+    let place = Place::find(&curve, &[0, 1, 44]);
+    assert!(rt; place == Place::find(&curve, &[1, 44]));
+    assert!(rt; Place::find(&curve, &[]) == Place::origin());
+    let multiple = place.multiple(&curve, &[0, 0, 7]);
+    assert!(rt; multiple == place.multiple(&curve, &[7]));
+    assert!(rt; place.multiple(&curve, &[]) == Place::origin());
     Ok(())
 }
 
@@ -147,23 +139,17 @@ fn zeros_in_front(rt: HostRuntime) -> Result<(), Fail> {
 #[test]
 fn offsets_of_a_place(rt: HostRuntime) -> Result<(), Fail> {
     let f = Prime::new(5)?;
-    let setting = setting(&f, &SMALLEST)?;
+    let curve = curve(&f, &SMALLEST)?;
+    let setting = &curve.setting;
+    let refused = Some(Refusal::OffsetTooLarge);
     let one = Ideal::one();
-    assert!(rt; Place::new(&setting, &one, 1).is_ok());
-    assert_eq!(rt; refused(Place::new(&setting, &one, 2)), 46);
-    let ideal = Ideal::new(&f, &setting, &of(&[1, 1]), &of(&[1]))?;
-    assert!(rt; Place::new(&setting, &ideal, 0).is_ok());
-    assert_eq!(rt; refused(Place::new(&setting, &ideal, 1)), 46);
-    assert_eq!(rt; refused(Place::new(&setting, &ideal, usize::MAX)), 46);
+    assert!(rt; Place::new(setting, &one, 1).is_ok());
+    assert_eq!(rt; Place::new(setting, &one, 2).err(), refused);
+    let ideal = Ideal::new(&curve, &Poly::try_from(&[1, 1][..])?, &Poly::constant(1))?;
+    assert!(rt; Place::new(setting, &ideal, 0).is_ok());
+    assert_eq!(rt; Place::new(setting, &ideal, 1).err(), refused);
+    assert_eq!(rt; Place::new(setting, &ideal, usize::MAX).err(), refused);
     Ok(())
-}
-
-// The number of a refusal, or 0 where a place was made.
-fn refused(made: Result<Place, Refusal>) -> u16 {
-    match made {
-        Ok(_) => 0,
-        Err(refusal) => refusal.number(),
-    }
 }
 
 #[test]

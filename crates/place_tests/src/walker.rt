@@ -1,6 +1,6 @@
 // The line as the rules tell it, with nothing but baby steps.
 use field::{Field, Refusal};
-use ideal::{Ideal, Setting};
+use ideal::{Curve, Ideal, Setting};
 use place::Place;
 
 // Place t.
@@ -20,8 +20,8 @@ impl Walker {
     }
 
     // From place t to place t + 1: one more in the offset, or the next ideal where the length of the step is reached.
-    pub fn advance<F: Field>(&mut self, f: &F, setting: &Setting) {
-        let (next, far) = self.ideal.step(f, setting);
+    pub fn advance<F: Field>(&mut self, curve: &Curve<F>) {
+        let (next, far) = self.ideal.step(curve);
         let length = far.saturating_sub(self.ideal.q().len());
         let offset = self.offset.saturating_add(1);
         if offset < length {
@@ -42,22 +42,11 @@ impl Walker {
     }
 }
 
-pub fn same(a: &Place, b: &Place) -> bool {
-    a.offset() == b.offset() && same_ideal(a.ideal(), b.ideal())
-}
-
-pub fn same_ideal(a: &Ideal, b: &Ideal) -> bool {
-    a.q().same(b.q()) && a.p().same(b.p())
-}
-
-// The length of the ring: how far it is to the next (1), or 1000 where it is farther.
-pub fn ring<F: Field>(f: &F, setting: &Setting) -> usize {
+// The length of the ring: how far it is to the next (1), where it is nearer than 1000.
+pub fn ring<F: Field>(curve: &Curve<F>) -> Option<usize> {
     let mut walker = Walker::start();
-    for t in 1..1000usize {
-        walker.advance(f, setting);
-        if walker.is_home() {
-            return t;
-        }
-    }
-    1000
+    (1..1000usize).find(|_| {
+        walker.advance(curve);
+        walker.is_home()
+    })
 }

@@ -1,8 +1,9 @@
 -- Between the coefficients of a record and the polynomial that it stands for.
-use Rattle.std.proofs.Common.{◌≡◌, ℕ, zero, suc, ◌-◌, ◌<◌, ◌≤◌, Bool, false, List, [], ◌∷◌, map, length, get_or, Decides, sym, refl, ap, ◌∙◌, subst, ap₂, ⊎_elim, arith, ext_get_or}
+use Rattle.std.proofs.Common.{◌≡◌, ℕ, zero, suc, ◌+◌, ◌-◌, ◌<◌, ◌≤◌, Bool, List, [], ◌∷◌, map, length, get_or, Decides, sym, refl, ap, ◌∙◌, subst, ap₂, ⊎_elim, arith, ext_get_or}
+use Rattle.std.specs.List.{IsLastAndRest}
 use lib.ListN.{get_or-map}
 use Rattle.std.proofs.lemmas.Bool.{cases_lt}
-use Rattle.std.proofs.lemmas.List.{get_or_past, get_or-take, length-take-le}
+use Rattle.std.proofs.lemmas.List.{get_or_past, get_or_at, get_or-take, length-take-le, get_or_append_left}
 use Rattle.field.specs.Meaning.{Meaning, Lawful}
 use Rattle.ring.proofs.Poly.{poly, coef, coef_poly, ext}
 use Rattle.ring.proofs.Sizes.{len, len_le, coef_past}
@@ -152,6 +153,19 @@ pub coefficients_at : (p : Poly) (k : ℕ) → get_or (coefficients p) k 0 ≡ a
 coefficients_at p k = ⊎_elim (get_or-take (size p) p.raw.coeffs k 0)
     (λ h. get_or_past (coefficients p) k 0 (omega (arith, coefficients_length p)) ∙ sym (p.past k h)) (cases_lt k (size p))
 
+-- the coefficients as the top one and those below it
+pub record Parts (p : Poly) (top : ℕ) (row : List ℕ) : Type 0 where
+  pub size_is : size p ≡ length row + 1
+  pub row_at : (k : ℕ) → k < length row → get_or row k 0 ≡ at p k
+  pub top_at : at p (length row) ≡ top
+
+pub parts : (p : Poly) (top : ℕ) (row : List ℕ) → IsLastAndRest (coefficients p) top row → Parts p top row
+parts p top row e = record {
+  size_is = omega (arith, e.1, coefficients_length p);
+  row_at = λ k h. sym (get_or_append_left row (top ∷ []) 0 k h) ∙ ap (λ xs. get_or xs k 0) (sym e.0) ∙ coefficients_at p k;
+  top_at = sym (coefficients_at p (length row)) ∙ ap (λ xs. get_or xs (length row) 0) e.0 ∙ get_or_at row top [] 0 (length row) refl;
+}
+
 -- equal coefficients, equal lengths
 pub same_size : (p q : Poly) → p.raw.coeffs ≡ q.raw.coeffs → size p ≡ size q
 same_size p q e =
@@ -160,14 +174,8 @@ same_size p q e =
     omega arith
 
 -- what decides whether the coefficients are equal decides whether the polynomials are
-pub decides : (p q : Poly) (r : Bool) → Decides r (p.raw.coeffs ≡ q.raw.coeffs) → Decides r (p.raw.coeffs ≡ q.raw.coeffs) × Same p q r
-decides p q r h = (
-  h,
-  λ m L x y hx hy. ((λ e. same_value L hx hy (h.0 e)), λ e. h.1 (determined L (moved L hx e) hy).1),
-)
-
-pub differs : (p q : Poly) → (p.raw.coeffs ≡ q.raw.coeffs → ⊥) → Decides false (p.raw.coeffs ≡ q.raw.coeffs) × Same p q false
-differs p q n = decides p q false ((λ e. let z : ◌≡◌ {A = ℕ} 0 1 = cc in absurd (omega arith)), λ e. absurd (n e))
+pub decides : (p q : Poly) (r : Bool) → Decides r (p.raw.coeffs ≡ q.raw.coeffs) → Same p q r
+decides p q r h = λ m L x y hx hy. ((λ e. same_value L hx hy (h.0 e)), λ e. h.1 (determined L (moved L hx e) hy).1)
 
 -- the polynomial of a list of codes
 pub listed : (cs : List ℕ) (p : Poly) → ((k : ℕ) → at p k ≡ get_or cs k 0) → Listed cs p

@@ -1,5 +1,6 @@
 -- Multiples by the inverse of the top coefficient.
-use Rattle.std.proofs.Common.{◌≡◌, ℕ, zero, suc, ◌-◌, ◌<◌, ◌≤◌, ◌≢◌, [], ◌∷◌, get_or, Some, None, sym, refl, ap, ◌∙◌, ⊎_elim, arith}
+use Rattle.std.proofs.Common.{◌≡◌, ℕ, zero, suc, ◌-◌, ◌<◌, ◌≤◌, ◌≢◌, [], ◌∷◌, get_or, Option, Some, None, sym, refl, ap, ◌∙◌, subst, ⊎_elim, arith}
+use Rattle.std.specs.Option.{unwrap_or}
 use Rattle.std.proofs.lemmas.Bool.{cases_lt}
 use Rattle.field.specs.Meaning.{Meaning, Lawful}
 use Rattle.ring.proofs.Ring.{⊗-zero, zero-⊗, one-⊗}
@@ -14,16 +15,16 @@ use Rattle.poly.proofs.Bridge.{at_is, len_is, code_product, code_one, code_zero,
 use Rattle.poly.proofs.Sums.{coef_scaled, len_scaled}
 use Rattle.poly.proofs.Quotients.{inverse_is, inverse_some}
 
-pub top_inverse_lem : (m : Meaning) (a : Poly) (u : ℕ) → 0 < size a → Some u ≡ m.inverse (at a (size a - 1)) → TopInverse m a u
-top_inverse_lem m a u pos e L low =
+pub top_inverse_lem : (m : Meaning) (a : Poly) (top : ℕ) (r : Option ℕ) (u : ℕ) → 0 < size a → top ≡ at a (size a - 1) → r ≡ m.inverse top
+    → u ≡ unwrap_or r 1 → TopInverse m a u
+top_inverse_lem m a top (Some v) u pos t e f L low =
     let ne : at a (size a - 1) ≢ 0 = a.top pos in
-    let t = inverse_is L (at a (size a - 1)) u (omega arith) (low (size a - 1)) e in
-    (t.0, (λ h. t.1), λ h. absurd (omega arith))
-
-pub no_inverse : (m : Meaning) (a : Poly) → 0 < size a → None ≡ m.inverse (at a (size a - 1)) → TopInverse m a 1
-no_inverse m a pos e L low =
+    let i = inverse_is L (at a (size a - 1)) v (omega arith) (low (size a - 1)) (e ∙ ap m.inverse t) in
+    let is : v ≡ u = sym f in
+    (subst (λ (n : ℕ). n < m.size) is i.0, (λ h. subst (λ (n : ℕ). m.product (at a (size a - 1)) n ≡ 1) is i.1), λ h. absurd (omega arith))
+top_inverse_lem m a top None u pos t e f L low =
     let ne : at a (size a - 1) ≢ 0 = a.top pos in
-    absurd (inverse_some L (at a (size a - 1)) (omega arith) (low (size a - 1)) e)
+    absurd (inverse_some L (at a (size a - 1)) (omega arith) (low (size a - 1)) (e ∙ ap m.inverse t))
 
 module _ {m : Meaning} (L : Lawful m) where
   infixl 70 ◌⊗◌

@@ -1,7 +1,8 @@
 -- Products by rows: what stands after the rows of the coefficients below i.
-use Rattle.std.proofs.Common.{◌≡◌, ℕ, ◌+◌, ◌<◌, ◌≤◌, List, [], ◌∷◌, get_or, replicate, sym, ap, ◌∙◌, subst, ap₂, ⊎_elim, add-one, arith}
+use Rattle.std.proofs.Common.{◌≡◌, ℕ, ◌+◌, ◌<◌, ◌≤◌, List, [], ◌∷◌, length, get_or, replicate, sym, ap, ◌∙◌, subst, ap₂, ⊎_elim, add-one, arith}
 use mathlib.Core.Path.{fun_ext}
 use Rattle.std.proofs.lemmas.Bool.{cases_lt}
+use Rattle.std.proofs.lemmas.List.{get_or_past}
 use Rattle.field.specs.Meaning.{Meaning, Lawful}
 use Rattle.ring.proofs.Ring.{neg-⊗, zero-⊕}
 use Rattle.ring.proofs.Quote.{quote, auto}
@@ -39,17 +40,20 @@ module _ {m : Meaning} (L : Lawful m) (x y : R L) where
   }
 
   -- one row more
-  pub again : (a b : Poly) → Is L a x → Is L b y → (old mid new : List ℕ) (i n : ℕ) → ((k : ℕ) → k < 128 → i + n ≤ k → i + size b ≤ k)
-      → Partial old i mid → Row m mid i (at a i) b n new → Partial old (i + 1) new
-  again a b hx hy old mid new i n all h r = record {
-    low = row_low L b y hy mid new i (at a i) n (hx.low i) h.low r;
+  pub again : (a b : Poly) → Is L a x → Is L b y → (old mid row new : List ℕ) (i c : ℕ) → c ≡ at a i → ((k : ℕ) → k < length row → get_or row k 0 ≡ at b k)
+      → ((k : ℕ) → k < 128 → i + length row ≤ k → i + size b ≤ k) → Partial old i mid → Row m mid i c row new → Partial old (i + 1) new
+  again a b hx hy old mid row new i c c_is row_at all h f = record {
+    low = row_low L b y hy mid row new i (at a i) row_at (hx.low i) h.low r;
     is = λ k g.
-        row_is L b y hy mid new i (at a i) n (hx.low i) h.low r k (all k g)
+        row_is L b y hy mid row new i (at a i) row_at (hx.low i) h.low r k (all k g)
         ∙ ap₂ (λ z w. z ⊕ w ⊗ shift (ring_c L) i (coef (codes L) y) k) (h.is k g) (at_is L hx i)
         ∙ auto (ring_c L) (code L (get_or old k 0) ∷ part i k ∷ coef (codes L) x i ∷ shift (ring_c L) i (coef (codes L) y) k ∷ []) (search quote depth 20) tt
         ∙ ap (λ z. code L (get_or old k 0) ⊕ z) (sym (conv_upto (ring_c L) i k (coef (codes L) x) (coef (codes L) y)))
         ∙ ap (λ (j : ℕ). code L (get_or old k 0) ⊕ part j k) (sym (add-one i));
   }
+    where
+      r : Row m mid i (at a i) row new
+      r = subst (λ (z : ℕ). Row m mid i z row new) c_is f
 
   -- all rows
   pub finish : (a : Poly) → Is L a x → (old new : List ℕ) (i : ℕ) → size a ≤ i → Partial old i new → Grown L old (mul_p (codes L) x y) new
@@ -74,6 +78,11 @@ module _ {m : Meaning} (L : Lawful m) (x y : R L) where
           go (yes e) d = ap (λ (w : R L). conv (ring_c L) (coef (codes L) w) (coef (codes L) y) k) e ∙ conv_zero (ring_c L) k (coef (codes L) y)
           go (no e) (yes d) = ap (λ (w : R L). conv (ring_c L) (coef (codes L) x) (coef (codes L) w) k) d ∙ conv_comm (ring_c L) k _ _ ∙ conv_zero (ring_c L) k (coef (codes L) x)
           go (no e) (no d) = sym (coef_conv (codes L) x y k) ∙ coef_past (codes L) (mul_p (codes L) x y) k (omega (arith, len_mul (codes L) x y e d))
+
+-- 0 stays 0 past the product, and past the array
+pub added_past : {m : Meaning} {a b : Poly} {old new : List ℕ} → Added m old a b new → length new ≡ 128 → (k : ℕ) → (k < 128 → size a + size b ≤ k)
+    → get_or old k 0 ≡ 0 → get_or new k 0 ≡ 0
+added_past {new = new} h l k past z = ⊎_elim (λ g. h.past k (past g) ∙ z) (λ g. get_or_past new k 0 (omega arith)) (cases_lt k 128)
 
 -- what was added to zeros
 pub low_product : (m : Meaning) (a b r : Poly) → Added m (replicate 128 0) a b r.raw.coeffs → LowProduct m a b r

@@ -1,5 +1,6 @@
 -- Division by rows: what stands after some digits.
 use Rattle.std.proofs.Common.{◌≡◌, ℕ, ◌+◌, ◌-◌, ◌<◌, ◌≢◌, List, [], ◌∷◌, length, get_or, set, replicate, Some, None, sym, refl, ap, ◌∙◌, subst, ap₂, arith, get_or-set_other, get_or-set_same}
+use Rattle.std.specs.List.{IsLastAndRest}
 use mathlib.Core.Path.{fun_ext}
 use native.Mathlib.Decide.{ℕ_discrete}
 use Rattle.field.specs.Meaning.{Meaning, Lawful}
@@ -10,11 +11,11 @@ use Rattle.ring.proofs.Series.{conv, conv_zero}
 use Rattle.ring.proofs.Poly.{add_p, mul_p, zero_p, Polynomials, coef, coef_add, coef_conv, ext}
 use Rattle.algebra.specs.Codes.{Code, code, codes, ring_c, zero_low, R}
 use Rattle.poly.specs.Rows.{Row}
-use Rattle.poly.specs.Values.{at, size, Is, value}
+use Rattle.poly.specs.Values.{at, size, coefficients, Is, value}
 use Rattle.poly.specs.Rules.{Divided}
 use Rattle.poly.specs.declared.poly.Poly.{Poly}
 use Rattle.poly.proofs.Zeros.{zeros, set_zero}
-use Rattle.poly.proofs.Bridge.{at_is, self, coef_value, code_product, code_opposite, code_zero, code_one}
+use Rattle.poly.proofs.Bridge.{parts, at_is, self, coef_value, code_product, code_opposite, code_zero, code_one}
 use Rattle.poly.proofs.Rows.{shift, shift_at, conv_step, row_low, row_is}
 
 -- what the inverse of a code that is not 0 is
@@ -28,6 +29,14 @@ pub inverse_some : {m : Meaning} (L : Lawful m) (c : ℕ) → 0 < c → c < m.si
 inverse_some {m} L c h l e =
     let t = L.inverse_there c h l in
     let z : ◌≡◌ {A = ℕ} 0 1 = cc (e, t.1) in absurd (omega arith)
+
+code_pos : (b : Poly) (top : ℕ) (row : List ℕ) → IsLastAndRest (coefficients b) top row → 0 < at b (length row)
+code_pos b top row e =
+    let p = parts b top row e in
+    let ne : at b (size b - 1) ≢ 0 = b.top (omega (arith, p.size_is)) in
+    let k : size b - 1 ≡ length row = omega (arith, p.size_is) in
+    let o : at b (size b - 1) ≡ at b (length row) = ap (at b) k in
+    omega arith
 
 module _ {m : Meaning} (L : Lawful m) (x y : R L) where
   infixl 60 ◌⊕◌
@@ -60,8 +69,9 @@ module _ {m : Meaning} (L : Lawful m) (x y : R L) where
   }
 
   -- one digit d more, at i, which takes d x^i y away
-  module _ (b : Poly) (hy : Is L b y) (top u i d : ℕ) (q s r : List ℕ) (b_top : size b ≡ top + 1) (u_low : u < m.size) (u_is : m.product (at b top) u ≡ 1)
-      (h : Partly q s) (d_is : d ≡ m.product (get_or s (i + top) 0) u) (q_long : i < length q) (q_none : get_or q i 0 ≡ 0) (f : Row m s i (m.opposite d) b top r) where
+  module _ (b : Poly) (hy : Is L b y) (top u i d : ℕ) (q s row r : List ℕ) (b_top : size b ≡ top + 1)
+      (long : length row ≡ top) (row_at : (k : ℕ) → k < length row → get_or row k 0 ≡ at b k) (u_low : u < m.size) (u_is : m.product (at b top) u ≡ 1)
+      (h : Partly q s) (d_is : d ≡ m.product (get_or s (i + top) 0) u) (q_long : i < length q) (q_none : get_or q i 0 ≡ 0) (f : Row m s i (m.opposite d) row r) where
     d_low : d < m.size
     d_low = subst (λ (c : ℕ). c < m.size) (sym d_is) (L.product_closed (get_or s (i + top) 0) u (h.s_low (i + top)) u_low)
 
@@ -73,7 +83,7 @@ module _ {m : Meaning} (L : Lawful m) (x y : R L) where
     q_next k (no e) = rw get_or-set_other (h.q_low k)
 
     r_low : (k : ℕ) → get_or r k 0 < m.size
-    r_low = row_low L b y hy s r i (m.opposite d) top (L.opposite_closed d d_low) h.s_low f
+    r_low = row_low L b y hy s row r i (m.opposite d) row_at (L.opposite_closed d d_low) h.s_low f
 
     s_next : (k : ℕ) → Dec (k ≡ i + top) → get_or (set r (i + top) 0) k 0 < m.size
     s_next k (yes e) = subst (λ (j : ℕ). get_or (set r (i + top) 0) j 0 < m.size) (sym e) (subst (λ (c : ℕ). c < m.size) (sym (set_zero r (i + top))) (zero_low L))
@@ -98,7 +108,7 @@ module _ {m : Meaning} (L : Lawful m) (x y : R L) where
     unfolding D
     rest n (yes e) = subst (λ (k : ℕ). read (set r (i + top) 0) k ≡ read s k ⊕ ⊖ D ⊗ shift (ring_c L) i B k) (sym e)
         (ap (code L) (set_zero r (i + top)) ∙ code_zero L ∙ gone ∙ ap (λ z. read s (i + top) ⊕ ⊖ D ⊗ z) (sym (shift_at (ring_c L) i top B)))
-    rest n (no e) = rw get_or-set_other (row_is L b y hy s r i (m.opposite d) top (L.opposite_closed d d_low) h.s_low f n (λ l. omega arith)
+    rest n (no e) = rw get_or-set_other (row_is L b y hy s row r i (m.opposite d) row_at (L.opposite_closed d d_low) h.s_low f n (λ l. omega arith)
         ∙ ap (λ z. read s n ⊕ z ⊗ shift (ring_c L) i B n) (code_opposite L d d_low))
 
     pub again : Partly (set q i d) (set r (i + top) 0)
@@ -110,19 +120,19 @@ module _ {m : Meaning} (L : Lawful m) (x y : R L) where
     }
 
   -- the same, in the words of the code
-  pub step : (b : Poly) → Is L b y → (u i d n : ℕ) (q s r : List ℕ) → 0 < size b → Some u ≡ m.inverse (at b (size b - 1))
-      → Partly q s → d ≡ m.product (get_or s (i + (size b - 1)) 0) u → n ≡ m.opposite d → i < length q → get_or q i 0 ≡ 0 → Row m s i n b (size b - 1) r
-      → Partly (set q i d) (set r (i + (size b - 1)) 0)
-  step b hy u i d n q s r b_pos u_is h d_is n_is long none f =
-      let ne : at b (size b - 1) ≢ 0 = b.top b_pos in
-      let t = inverse_is L (at b (size b - 1)) u (omega arith) (hy.low (size b - 1)) u_is in
-      again b hy (size b - 1) u i d q s r (omega arith) t.0 t.1 h d_is long none
-      (subst (λ (c : ℕ). Row m s i c b (size b - 1) r) n_is f)
+  pub step : (b : Poly) → Is L b y → (top u i d n : ℕ) (q s row r : List ℕ) → IsLastAndRest (coefficients b) top row → Some u ≡ m.inverse top
+      → Partly q s → d ≡ m.product (get_or s (i + length row) 0) u → n ≡ m.opposite d → i < length q → get_or q i 0 ≡ 0 → Row m s i n row r
+      → Partly (set q i d) (set r (i + length row) 0)
+  step b hy top u i d n q s row r e u_is h d_is n_is long none f =
+      let p = parts b top row e in
+      let t = inverse_is L (at b (length row)) u (code_pos b top row e) (hy.low (length row)) (u_is ∙ ap m.inverse (sym p.top_at)) in
+      again b hy (length row) u i d q s row r p.size_is refl p.row_at t.0 t.1 h d_is long none
+      (subst (λ (c : ℕ). Row m s i c row r) n_is f)
 
-  pub stuck : (b : Poly) → Is L b y → 0 < size b → None ≡ m.inverse (at b (size b - 1)) → ⊥
-  stuck b hy pos e =
-      let ne : at b (size b - 1) ≢ 0 = b.top pos in
-      inverse_some L (at b (size b - 1)) (omega arith) (hy.low (size b - 1)) e
+  pub stuck : (b : Poly) → Is L b y → (top : ℕ) (row : List ℕ) → IsLastAndRest (coefficients b) top row → None ≡ m.inverse top → ⊥
+  stuck b hy top row e n =
+      let p = parts b top row e in
+      inverse_some L (at b (length row)) (code_pos b top row e) (hy.low (length row)) (n ∙ ap m.inverse (sym p.top_at))
 
   pub finish : (q s : Poly) → Partly q.raw.coeffs s.raw.coeffs → Divided L x y q s
   finish q s h = record {

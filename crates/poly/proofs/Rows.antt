@@ -1,5 +1,5 @@
 -- A row adds c x^i b: what that is coefficient by coefficient, and what it does to a product.
-use Rattle.std.proofs.Common.{◌≡◌, ℕ, zero, suc, ◌+◌, ◌-◌, ◌<◌, ◌≤◌, ◌≢◌, List, [], ◌∷◌, length, get_or, set, sym, refl, ap, ◌∙◌, subst, ap₂, ⊎_elim, suc-add, zero-add, arith, get_or-set_other, get_or-set_same, below_more}
+use Rattle.std.proofs.Common.{◌≡◌, ℕ, zero, suc, ◌+◌, ◌-◌, ◌<◌, ◌≤◌, ◌≢◌, List, [], ◌∷◌, length, get_or, sym, refl, ap, ◌∙◌, subst, ap₂, ⊎_elim, suc-add, zero-add, arith}
 use mathlib.Core.Path.{fun_ext}
 use Rattle.std.proofs.lemmas.Bool.{cases_lt}
 use Rattle.field.specs.Meaning.{Meaning, Lawful}
@@ -75,40 +75,32 @@ module _ {C : Type 0} (K : CommRing C) where
       (λ l. upto_below f (suc i) k (omega arith) ∙ sym (upto_below f i k l))
       (λ l. upto_past f (suc i) k (omega arith) ∙ sym (upto_past f i k l)) (cases_lt k i))
 
--- one coefficient of b more
-pub row_more : (m : Meaning) (old mid : List ℕ) (i c : ℕ) (b : Poly) (n v : ℕ) → Row m old i c b n mid → i + n < length mid
-    → v ≡ m.sum (get_or mid (i + n) 0) (m.product c (at b n)) → Row m old i c b (n + 1) (set mid (i + n) v)
-row_more m old mid i c b n v h l e = record {
-  before = λ k g. let ne : k ≢ i + n = omega arith in rw get_or-set_other (h.before k g);
-  inside = below_more (λ k. get_or (set mid (i + n) v) (i + k) 0 ≡ m.sum (get_or old (i + k) 0) (m.product c (at b k))) n
-      (λ k g. let ne : i + k ≢ i + n = omega arith in rw get_or-set_other (h.inside k g))
-      (rw get_or-set_same (e ∙ ap (λ (z : ℕ). m.sum z (m.product c (at b n))) (h.after (i + n) (omega arith))));
-  after = λ k g. let ne : k ≢ i + n = omega arith in rw get_or-set_other (h.after k (omega arith));
-}
-
 -- a row, read as codes: at each place that it covers, or where b has no coefficient
-module _ {m : Meaning} (L : Lawful m) (b : Poly) (y : R L) (hy : Is L b y) (old new : List ℕ) (i c n : ℕ) (c_low : c < m.size)
-    (old_low : (k : ℕ) → get_or old k 0 < m.size) (h : Row m old i c b n new) where
+module _ {m : Meaning} (L : Lawful m) (b : Poly) (y : R L) (hy : Is L b y) (old row new : List ℕ) (i c : ℕ) (row_at : (k : ℕ) → k < length row → get_or row k 0 ≡ at b k)
+    (c_low : c < m.size) (old_low : (k : ℕ) → get_or old k 0 < m.size) (h : Row m old i c row new) where
   infixl 60 ◌⊕◌
   infixl 70 ◌⊗◌
   open ring_c L use {𝟘, 𝟙, ◌⊕◌, ◌⊗◌, ⊕-zero}
 
+  placed : (k : ℕ) → k < length row → get_or new (i + k) 0 ≡ m.sum (get_or old (i + k) 0) (m.product c (at b k))
+  placed k g = h.inside k g ∙ ap (λ (z : ℕ). m.sum (get_or old (i + k) 0) (m.product c z)) (row_at k g)
+
   pub row_low : (k : ℕ) → get_or new k 0 < m.size
-  row_low k = ⊎_elim (λ g. same (h.before k g)) (λ g. ⊎_elim (inside g) (λ l. same (h.after k l)) (cases_lt k (i + n))) (cases_lt k i)
+  row_low k = ⊎_elim (λ g. same (h.before k g)) (λ g. ⊎_elim (inside g) (λ l. same (h.after k l)) (cases_lt k (i + length row))) (cases_lt k i)
     where
       same : get_or new k 0 ≡ get_or old k 0 → get_or new k 0 < m.size
       same e = subst (λ (z : ℕ). z < m.size) (sym e) (old_low k)
 
-      inside : i ≤ k → k < i + n → get_or new k 0 < m.size
+      inside : i ≤ k → k < i + length row → get_or new k 0 < m.size
       inside g l =
           let j : ℕ = k - i in
           let e : i + j ≡ k = omega arith in
-          subst (λ (z : ℕ). get_or new z 0 < m.size) e (subst (λ (z : ℕ). z < m.size) (sym (h.inside j (omega arith)))
+          subst (λ (z : ℕ). get_or new z 0 < m.size) e (subst (λ (z : ℕ). z < m.size) (sym (placed j (omega arith)))
           (L.sum_closed (get_or old (i + j) 0) (m.product c (at b j)) (old_low (i + j)) (L.product_closed c (at b j) c_low (hy.low j))))
 
-  pub row_is : (k : ℕ) → (i + n ≤ k → i + size b ≤ k) → code L (get_or new k 0) ≡ code L (get_or old k 0) ⊕ code L c ⊗ shift (ring_c L) i (coef (codes L) y) k
+  pub row_is : (k : ℕ) → (i + length row ≤ k → i + size b ≤ k) → code L (get_or new k 0) ≡ code L (get_or old k 0) ⊕ code L c ⊗ shift (ring_c L) i (coef (codes L) y) k
   row_is k all = ⊎_elim (λ g. same (h.before k g) (shift_before (ring_c L) i k (coef (codes L) y) g))
-      (λ g. ⊎_elim (inside g) (λ l. same (h.after k l) (past g (all l))) (cases_lt k (i + n))) (cases_lt k i)
+      (λ g. ⊎_elim (inside g) (λ l. same (h.after k l) (past g (all l))) (cases_lt k (i + length row))) (cases_lt k i)
     where
       same : get_or new k 0 ≡ get_or old k 0 → shift (ring_c L) i (coef (codes L) y) k ≡ 𝟘
           → code L (get_or new k 0) ≡ code L (get_or old k 0) ⊕ code L c ⊗ shift (ring_c L) i (coef (codes L) y) k
@@ -121,12 +113,12 @@ module _ {m : Meaning} (L : Lawful m) (b : Poly) (y : R L) (hy : Is L b y) (old 
           subst (λ (z : ℕ). shift (ring_c L) i (coef (codes L) y) z ≡ 𝟘) e
           (shift_at (ring_c L) i j (coef (codes L) y) ∙ coef_past (codes L) y j (omega (arith, len_is L hy)))
 
-      inside : i ≤ k → k < i + n → code L (get_or new k 0) ≡ code L (get_or old k 0) ⊕ code L c ⊗ shift (ring_c L) i (coef (codes L) y) k
+      inside : i ≤ k → k < i + length row → code L (get_or new k 0) ≡ code L (get_or old k 0) ⊕ code L c ⊗ shift (ring_c L) i (coef (codes L) y) k
       inside g l =
           let j : ℕ = k - i in
           let e : i + j ≡ k = omega arith in
           subst (λ (z : ℕ). code L (get_or new z 0) ≡ code L (get_or old z 0) ⊕ code L c ⊗ shift (ring_c L) i (coef (codes L) y) z) e
-          (ap (code L) (h.inside j (omega arith))
+          (ap (code L) (placed j (omega arith))
           ∙ code_sum L (get_or old (i + j) 0) (m.product c (at b j)) (old_low (i + j)) (L.product_closed c (at b j) c_low (hy.low j))
           ∙ ap (λ z. code L (get_or old (i + j) 0) ⊕ z) (code_product L c (at b j) c_low (hy.low j)
           ∙ ap (λ z. code L c ⊗ z) (at_is L hy j ∙ sym (shift_at (ring_c L) i j (coef (codes L) y)))))

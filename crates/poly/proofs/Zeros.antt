@@ -1,6 +1,6 @@
 -- A list of zeros, and where a list ends.
-use Rattle.std.proofs.Common.{◌≡◌, ℕ, zero, suc, ◌<◌, ◌≤◌, List, [], ◌∷◌, length, get_or, set, replicate, sym, refl, ◌∙◌, subst, ⊎_elim, arith, get_or-set_other}
-use Rattle.std.proofs.lemmas.List.{get_or_past}
+use Rattle.std.proofs.Common.{◌≡◌, ℕ, zero, suc, ◌<◌, ◌≤◌, ◌+◌, ◌-◌, List, [], ◌∷◌, ◌++◌, length, drop, get_or, set, replicate, sym, refl, ◌∙◌, subst, ⊎_elim, arith, get_or-set_other}
+use Rattle.std.proofs.lemmas.List.{get_or_past, get_or-append_right, get_or-drop}
 use Rattle.std.proofs.lemmas.Bool.{cases_lt}
 use native.Mathlib.Decide.{ℕ_discrete}
 
@@ -14,9 +14,9 @@ pub same_all : (xs ys : List ℕ) (n : ℕ) → ((k : ℕ) → k < n → get_or 
 same_all xs ys n below above short k =
     ⊎_elim (below k) (λ h. above k h ∙ sym (get_or_past ys k 0 (omega arith))) (cases_lt k n)
 
-pub one_place : (n c k : ℕ) → 0 < k → ◌≡◌ {A = ℕ} (get_or (set (replicate (suc n) 0) 0 c) k 0) 0
-one_place n c zero h = absurd (omega arith)
-one_place n c (suc k) h = zeros n k
+-- a list over zeros, as a write to the front of an array of zeros leaves it
+pub over_zeros : (xs : List ℕ) (n k : ℕ) → length xs ≡ n → n ≤ k → get_or (xs ++ drop n (replicate 128 0)) k 0 ≡ 0
+over_zeros xs n k e h = get_or-append_right xs (drop n (replicate 128 0)) n k 0 e h ∙ get_or-drop n (replicate 128 0) (k - n) 0 ∙ zeros 128 (n + (k - n))
 
 pub set_zero : (xs : List ℕ) (k : ℕ) → get_or (set xs k 0) k 0 ≡ 0
 set_zero [] k = refl

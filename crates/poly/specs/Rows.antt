@@ -1,17 +1,17 @@
 -- Rows of a product: what is added to coefficients that are worked on in place.
-use Rattle.std.specs.Prelude.{◌≡◌, ℕ, ◌+◌, ◌<◌, ◌≤◌, List, slice_index}
+use Rattle.std.specs.Prelude.{◌≡◌, ℕ, ◌+◌, ◌<◌, ◌≤◌, List, length, slice_index}
 use Rattle.field.specs.Meaning.{Meaning, Lawful}
 use Rattle.ring.proofs.Poly.{coef}
 use Rattle.algebra.specs.Codes.{code, codes, ring_c, R}
 use Rattle.poly.specs.Signs.{◌⊗◌}
-use Rattle.poly.specs.Values.{at, size, Is}
+use Rattle.poly.specs.Values.{size, Is}
 use Rattle.poly.specs.declared.poly.Poly.{Poly}
 
--- c x^i b, of which the n lowest coefficients are taken, was added to `old`
-pub record Row (m : Meaning) (old : List ℕ) (i c : ℕ) (b : Poly) (n : ℕ) (new : List ℕ) : Type 0 where
+-- c x^i times the coefficients `row` was added to `old`
+pub record Row (m : Meaning) (old : List ℕ) (i c : ℕ) (row new : List ℕ) : Type 0 where
   pub before : (k : ℕ) → k < i → slice_index new k ≡ slice_index old k
-  pub inside : (k : ℕ) → k < n → slice_index new (i + k) ≡ m.sum (slice_index old (i + k)) (m.product c (at b k))
-  pub after : (k : ℕ) → i + n ≤ k → slice_index new k ≡ slice_index old k
+  pub inside : (k : ℕ) → k < length row → slice_index new (i + k) ≡ m.sum (slice_index old (i + k)) (m.product c (slice_index row k))
+  pub after : (k : ℕ) → i + length row ≤ k → slice_index new k ≡ slice_index old k
 
 -- the polynomial v was added to `old`, below 128
 pub record Grown {m : Meaning} (L : Lawful m) (old : List ℕ) (v : R L) (new : List ℕ) : Type 0 where

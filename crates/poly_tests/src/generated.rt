@@ -1,6 +1,6 @@
 // Polynomials that look random and are the same in every run.
 use field::Field;
-use poly::Poly;
+use poly::{Poly, TooLong};
 
 // A linear congruential sequence.
 #[derive(Drop)]
@@ -16,19 +16,16 @@ impl Numbers {
     }
 
     // A polynomial of n coefficients, at most 128, the highest of which is not 0.
-    pub fn poly<F: Field>(&mut self, f: &F, n: usize) -> Poly {
+    pub fn poly<F: Field>(&mut self, f: &F, n: usize) -> Result<Poly, TooLong> {
         let q = f.size().max(2);
         let n = n.min(128);
         let mut coeffs = [0u32; 128];
-        for i in 0..n {
-            coeffs[i] = self.next() % q;
+        for c in coeffs[..n].iter_mut() {
+            *c = self.next() % q;
         }
-        if n > 0 {
-            coeffs[n - 1] = 1 + self.next() % (q - 1);
+        if let Some(top) = coeffs[..n].last_mut() {
+            *top = 1 + self.next() % (q - 1);
         }
-        match Poly::from(&coeffs) {
-            Some(p) => p,
-            None => Poly::zero(),
-        }
+        Poly::try_from(&coeffs[..])
     }
 }

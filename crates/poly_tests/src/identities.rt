@@ -7,22 +7,22 @@ use std::test::Fail;
 
 pub fn sums<F: Field>(rt: &impl Abort, f: &F, a: &Poly, b: &Poly) {
     let sum = a.add(f, b);
-    assert!(rt; sum.sub(f, b).same(a), "(a + b) - b = a");
-    assert!(rt; sum.same(&b.add(f, a)), "a + b = b + a");
-    assert!(rt; a.sub(f, b).same(&a.add(f, &b.neg(f))), "a - b = a + (-b)");
+    assert!(rt; sum.sub(f, b) == *a, "(a + b) - b = a");
+    assert!(rt; sum == b.add(f, a), "a + b = b + a");
+    assert!(rt; a.sub(f, b) == a.add(f, &b.neg(f)), "a - b = a + (-b)");
     assert!(rt; a.sub(f, a).is_zero(), "a - a = 0");
 }
 
 pub fn products<F: Field>(rt: &impl Abort, f: &F, a: &Poly, b: &Poly, c: &Poly) {
     let ab = a.mul(f, b);
     let ac = a.mul(f, c);
-    assert!(rt; ab.same(&b.mul(f, a)), "a b = b a");
+    assert!(rt; ab == b.mul(f, a), "a b = b a");
     assert!(rt;
-        a.mul(f, &b.add(f, c)).same(&ab.add(f, &ac)),
+        a.mul(f, &b.add(f, c)) == ab.add(f, &ac),
         "a (b + c) = a b + a c"
     );
     assert!(rt;
-        ab.minus_product(f, a, c).same(&a.mul(f, &b.sub(f, c))),
+        ab.minus_product(f, a, c) == a.mul(f, &b.sub(f, c)),
         "a b - a c = a (b - c)"
     );
     assert!(rt;
@@ -31,7 +31,7 @@ pub fn products<F: Field>(rt: &impl Abort, f: &F, a: &Poly, b: &Poly, c: &Poly) 
     );
     let top = a.coeff(a.len().saturating_sub(1));
     assert!(rt;
-        b.scale(f, top).same(&Poly::constant(top).mul(f, b)),
+        b.scale(f, top) == Poly::constant(top).mul(f, b),
         "multiple by a constant"
     );
 }
@@ -42,10 +42,10 @@ pub fn quotients<F: Field>(rt: &impl Abort, f: &F, a: &Poly, b: &Poly) {
         b.is_zero() || r.len() < b.len(),
         "remainder shorter than the divisor"
     );
-    assert!(rt; q.mul(f, b).add(f, &r).same(a), "a = q b + r");
+    assert!(rt; q.mul(f, b).add(f, &r) == *a, "a = q b + r");
     let (whole, none) = a.mul(f, b).div_rem(f, b);
     assert!(rt;
-        b.is_zero() || (whole.same(a) && none.is_zero()),
+        b.is_zero() || (whole == *a && none.is_zero()),
         "a b / b = a"
     );
 }
@@ -55,21 +55,18 @@ pub fn divisors<F: Field>(rt: &impl Abort, f: &F, a: &Poly, b: &Poly, c: &Poly) 
     let x = a.mul(f, c);
     let y = b.mul(f, c);
     let (p, q, g) = x.gcd(f, &y);
-    assert!(rt;
-        p.mul(f, &x).add(f, &q.mul(f, &y)).same(&g),
-        "g = p x + q y"
-    );
+    assert!(rt; p.mul(f, &x).add(f, &q.mul(f, &y)) == g, "g = p x + q y");
     assert!(rt;
         multiple(f, &x, &g) && multiple(f, &y, &g),
         "g divides x and y"
     );
     assert!(rt; multiple(f, &g, c), "c divides g");
-    assert!(rt; g.same(&g.monic(f)), "g is monic");
+    assert!(rt; g == g.monic(f), "g is monic");
 }
 
 pub fn monics<F: Field>(rt: &impl Abort, f: &F, a: &Poly) {
     let m = a.monic(f);
-    assert!(rt; m.same(&m.monic(f)), "the monic form of a monic form");
+    assert!(rt; m == m.monic(f), "the monic form of a monic form");
     assert!(rt;
         m.coeff(a.len().saturating_sub(1)) == u32::from(!a.is_zero()),
         "the leading coefficient is 1"
@@ -84,22 +81,17 @@ pub fn derivatives<F: Field>(rt: &impl Abort, f: &F, a: &Poly, b: &Poly) {
     let left = a.derivative(f).mul(f, b);
     let right = a.mul(f, &b.derivative(f));
     assert!(rt;
-        a.mul(f, b).derivative(f).same(&left.add(f, &right)),
+        a.mul(f, b).derivative(f) == left.add(f, &right),
         "(a b)' = a' b + a b'"
     );
 }
 
 pub fn comparisons<F: Field>(rt: &impl Abort, f: &F, a: &Poly) -> Result<(), Fail> {
-    assert!(rt; a.same(a), "a = a");
-    assert!(rt; !a.same(&a.add(f, &Poly::one())), "a is not a + 1");
+    assert!(rt; *a == *a, "a = a");
+    assert!(rt; *a != a.add(f, &Poly::one()), "a is not a + 1");
     assert_eq!(rt; a.codes().len(), a.len());
-    match Poly::from(a.codes()) {
-        Some(b) => {
-            assert!(rt; a.same(&b), "a is read back");
-            Ok(())
-        },
-        None => Err(Fail::new("too long")),
-    }
+    assert!(rt; *a == Poly::try_from(a.codes())?, "a is read back");
+    Ok(())
 }
 
 // Each coefficient of the product that the record holds is the sum of products that it should be, also where others are lost.
@@ -107,7 +99,8 @@ pub fn low_products<F: Field>(rt: &impl Abort, f: &F, a: &Poly, b: &Poly) {
     let ab = a.mul(f, b);
     for k in 0..128 {
         let mut sum = 0;
-        for i in 0..k + 1 {
+        // By index, as the sum goes over all i and j with i + j = k.
+        for i in 0..=k {
             sum = f.add(sum, f.mul(a.coeff(i), b.coeff(k - i)));
         }
         assert_eq!(rt; ab.coeff(k), sum);
@@ -118,9 +111,9 @@ pub fn low_products<F: Field>(rt: &impl Abort, f: &F, a: &Poly, b: &Poly) {
 pub fn identities<F: Field>(rt: &impl Abort, f: &F) -> Result<(), Fail> {
     let mut numbers = Numbers(20);
     for n in 0..65usize {
-        let a = numbers.poly(f, n);
-        let b = numbers.poly(f, n * 7 % 65);
-        let c = numbers.poly(f, n * 31 % 65);
+        let a = numbers.poly(f, n)?;
+        let b = numbers.poly(f, n * 7 % 65)?;
+        let c = numbers.poly(f, n * 31 % 65)?;
         assert_eq!(rt; a.len(), n);
         sums(rt, f, &a, &b);
         products(rt, f, &a, &b, &c);
@@ -130,7 +123,7 @@ pub fn identities<F: Field>(rt: &impl Abort, f: &F) -> Result<(), Fail> {
         derivatives(rt, f, &a, &b);
         comparisons(rt, f, &a)?;
     }
-    low_products(rt, f, &numbers.poly(f, 128), &numbers.poly(f, 100));
+    low_products(rt, f, &numbers.poly(f, 128)?, &numbers.poly(f, 100)?);
     Ok(())
 }
 

@@ -2,6 +2,7 @@
 -- factors: what divides D twice divides D and its derivative.
 use mathlib.Core.Path.{◌≡◌, sym, ◌∙◌, ap}
 use mathlib.Core.Logic.{◌≢◌}
+use Rattle.std.proofs.Common.{rules}
 use mathlib.Core.List.{[], ◌∷◌}
 use Prim.Native.Nat.{ℕ, zero, suc, ◌+◌, ◌-◌, ◌≤◌, ◌<◌}
 use native.Mathlib.Omega.{arith}
@@ -104,14 +105,7 @@ module _ {C R : Type 0} (K : PolyRing C R) where
 
   -- a square factor is common to D and its derivative
   pub square_shared : (D g h : R) → D ≡ (g ⊗ g) ⊗ h → Divides r g D × Divides r g (K.der D)
-  square_shared D g h e = (
-    (g ⊗ h, e ∙ auto r (g ∷ h ∷ []) (search quote depth 20) tt),
-    (
-      (K.der g ⊕ K.der g) ⊗ h ⊕ g ⊗ K.der h,
-      ap K.der e ∙ K.der_mul (g ⊗ g) h ∙ ap (λ z. z ⊗ h ⊕ (g ⊗ g) ⊗ K.der h) (K.der_mul g g)
-          ∙ auto r (g ∷ h ∷ K.der g ∷ K.der h ∷ []) (search quote depth 20) tt,
-    ),
-  )
+  square_shared = search rules
 
   pub no_square : (D : R) → ((g : R) → Divides r g D → Divides r g (K.der D) → len g ≡ 1) → (g h : R) → D ≡ (g ⊗ g) ⊗ h → len g ≡ 1
   no_square D c g h e = let s = square_shared D g h e in c g s.0 s.1

@@ -32,6 +32,7 @@ expr_ev {R = R} (q_add p q) = ap₂ R.◌⊕◌ (expr_ev p) (expr_ev q)
 expr_ev {R = R} (q_mul p q) = ap₂ R.◌⊗◌ (expr_ev p) (expr_ev q)
 expr_ev {R = R} (q_neg p) = ap R.⊖◌ (expr_ev p)
 
+-- one name for each place of the list: going down it by two rules (first, later) takes more steps than `search` allows
 module _ {C : Type 0} {R : CommRing C} where
   abbrev pub v0 : {a : C} {xs : List C} → Q R (a ∷ xs) a
   v0 = q_atom 0

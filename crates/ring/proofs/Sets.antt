@@ -1,9 +1,10 @@
 -- Sets of elements of a ring: the relation α I ⊆ β J, and the product of two sets, all sums of products. Ideals are such sets.
 use mathlib.Core.Path.{◌≡◌, refl, sym, ◌∙◌, ap, ap₂}
+use Rattle.std.proofs.Common.{rules}
 use mathlib.Core.List.{[], ◌∷◌}
 use Rattle.ring.proofs.Ring.{CommRing}
 use Rattle.ring.proofs.Quote.{quote, auto}
-use Rattle.ring.proofs.Hypotheses.{by_hyp, by_hyp₂}
+use Rattle.ring.proofs.Hypotheses.{by_hyp}
 
 -- α I ⊆ β J
 abbrev pub Sub : {X : Type 0} (T : CommRing X) → X → (X → Type 0) → X → (X → Type 0) → Type 0
@@ -19,10 +20,6 @@ module _ {X : Type 0} (T : CommRing X) where
   infixl 70 ◌⊗◌
   open T use {𝟙, ◌⊕◌, ◌⊗◌, ⊗-dist, ⊗-comm, ⊗-assoc}
 
-  across_trans : (α β γ δ ζ η θ : X) → α ⊗ ζ ≡ β ⊗ η → γ ⊗ η ≡ δ ⊗ θ → (α ⊗ γ) ⊗ ζ ≡ (β ⊗ δ) ⊗ θ
-  across_trans α β γ δ ζ η θ h g =
-      by_hyp₂ T γ h β g (auto T (α ∷ β ∷ γ ∷ δ ∷ ζ ∷ η ∷ θ ∷ []) (search quote depth 20) tt)
-
   ⊗-four : (a b c d : X) → (a ⊗ b) ⊗ (c ⊗ d) ≡ (a ⊗ c) ⊗ (b ⊗ d)
   ⊗-four a b c d = auto T (a ∷ b ∷ c ∷ d ∷ []) (search quote depth 20) tt
 
@@ -33,10 +30,7 @@ module _ {X : Type 0} (T : CommRing X) where
   across-⊕ a b {x} {y} {z} {w} h g = ⊗-dist a x y ∙ ap₂ ◌⊕◌ h g ∙ sym (⊗-dist b z w)
 
   pub sub_trans : (α β γ δ : X) (I J L : X → Type 0) → Sub T α I β J → Sub T γ J δ L → Sub T (α ⊗ γ) I (β ⊗ δ) L
-  sub_trans α β γ δ I J L f g ζ h =
-      let x = f ζ h in
-      let y = g x.0 x.1 in
-      (y.0, y.1, across_trans α β γ δ ζ x.0 y.0 x.2 y.2)
+  sub_trans = search rules
 
   -- the same with the factors of the way back
   pub sub_trans' : (α β γ δ : X) (I J L : X → Type 0) → Sub T β J α I → Sub T δ L γ J → Sub T (β ⊗ δ) L (α ⊗ γ) I

@@ -61,7 +61,6 @@ is_z (node p q) = and (is_z p) (is_z q)
 infixl 60 ◌:+◌ ◌:-◌
 infixl 70 ◌:*◌
 infix 80 :-◌
-infix 50 ◌:=◌
 pub data Expr : Type 0 where
   var : ℕ → Expr
   lit : ℕ → Expr
@@ -69,24 +68,6 @@ pub data Expr : Type 0 where
   ◌:-◌ : Expr → Expr → Expr
   ◌:*◌ : Expr → Expr → Expr
   :-◌ : Expr → Expr
-
--- an equation over n variables, as a function of n expressions
-pub data Eqn : Type 0 where
-  ◌:=◌ : Expr → Expr → Eqn
-
-abbrev pub Over {ℓ} : {C : Type ℓ} → List C → Type 0
-Over [] = Eqn
-Over (a ∷ xs) = Expr → Over xs
-
-abbrev pub close {ℓ} : {C : Type ℓ} (xs : List C) → ℕ → Over xs → Eqn
-close [] k e = e
-close (a ∷ xs) k f = close xs (suc k) (f (var k))
-
-abbrev pub lhs : Eqn → Expr
-lhs (a := b) = a
-
-abbrev pub rhs : Eqn → Expr
-rhs (a := b) = b
 
 abbrev pub nf : Expr → H
 nf (var i) = var_h i
@@ -236,6 +217,3 @@ module _ {C : Type 0} (R : CommRing C) where
   at [] i = 𝟘
   at (a ∷ xs) zero = a
   at (a ∷ xs) (suc i) = at xs i
-
-  pub ring : (xs : List C) (f : Over xs) → T (is_z (nf (lhs (close xs 0 f) :- rhs (close xs 0 f)))) → ev (at xs) (lhs (close xs 0 f)) ≡ ev (at xs) (rhs (close xs 0 f))
-  ring xs f t = solve (at xs) (lhs (close xs 0 f)) (rhs (close xs 0 f)) t

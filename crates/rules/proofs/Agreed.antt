@@ -1,5 +1,5 @@
 -- Agreement.
-use Rattle.std.proofs.Common.{◌≡◌, ℕ, suc, ◌+◌, ◌*◌, ◌<◌, ◌≤◌, ◌≢◌, List, ◌++◌, sym, refl, ap, ◌∙◌, subst, ap₂, subst₂, inl, inr, mul_comm, arith}
+use Rattle.std.proofs.Common.{◌≡◌, ℕ, suc, ◌+◌, ◌*◌, ◌≤◌, ◌≢◌, List, ◌++◌, sym, refl, ap, ◌∙◌, subst, ap₂, subst₂, inl, inr, mul_comm, arith}
 use native.Mathlib.Decide.{dec_le}
 use Rattle.field.specs.Meaning.{Meaning, Lawful}
 use Rattle.algebra.proofs.Adds.{adds_exists}
@@ -7,7 +7,7 @@ use Rattle.algebra.proofs.Group.{sum_adds}
 use Rattle.algebra.proofs.Unique.{ideal_path}
 use Rattle.algebra.proofs.Line.{place_legal, place_sum}
 use Rattle.rules.specs.Questions.{Answer, accepted, refused, Hold}
-use Rattle.rules.specs.Packets.{All, number}
+use Rattle.rules.specs.Packets.{number}
 use Rattle.rules.specs.Settings.{setting, Accepted, Ideals, unit_ideal, Closest, offer}
 use Rattle.rules.specs.Ends.{State, opened, keyed, tell, take, key, Open, ideal_asks, questions, Does}
 use Rattle.rules.specs.Places.{Given, Places, Shows, Means, place_asks, Add, codes_of, poly_from}
@@ -30,7 +30,7 @@ module _ {M : Meaning} (L : Lawful M) (A : Accepted L) (run : Run L A) (σ : Sid
 
       at : (s : State L) → run.end σ t.when ≡ s
           → Does L s (tell t.room) accepted (run.event t.when).written (run.end σ (suc t.when))
-      at s p = subst (λ z. Does L z (tell t.room) accepted (run.event t.when).written (run.end σ (suc t.when))) p d
+      at s p = rw (sym p) d
 
       go : Inside L A a δ (run.end σ t.when) → x ≡ offer L A a
       go (inl p) = sym t.wrote ∙ (at (opened A a δ) p).after.0
@@ -48,9 +48,7 @@ module _ {M : Meaning} (L : Lawful M) (A : Accepted L) (run : Run L A) (σ : Sid
     taken_at = still_open (opening_keeps L A run σ a δ b i t.within t.takes.happens e)
 
     does : Does L (opened A a δ) (take (offer L A c)) ans (run.event i).written (run.end σ (suc i))
-    does = subst (λ (y : List ℕ). Does L (opened A a δ) (take y) ans (run.event i).written (run.end σ (suc i))) is
-        (subst (λ s. Does L s (take x) ans (run.event i).written (run.end σ (suc i))) taken_at
-        (calls_does L A run σ i (take x) ans t.takes))
+    does = rw (sym is, sym taken_at) (calls_does L A run σ i (take x) ans t.takes)
 
     take_accepted : k ≢ unit_ideal L A → ans ≡ accepted
     take_accepted h = answers_unique (questions L (opened A a δ) (take (offer L A c))) ans accepted does.answer
@@ -71,8 +69,7 @@ module _ {M : Meaning} (L : Lawful M) (A : Accepted L) (run : Run L A) (σ : Sid
     keys_are h j room w call = go (opening_keeps L A run σ a δ b j w call.happens e) (dec_le j i)
       where
         at : (s : State L) → run.end σ j ≡ s → Does L s (key room) accepted (run.event j).written (run.end σ (suc j))
-        at s p = subst (λ z. Does L z (key room) accepted (run.event j).written (run.end σ (suc j))) p
-            (calls_does L A run σ j (key room) accepted call)
+        at s p = rw (sym p) (calls_does L A run σ j (key room) accepted call)
 
         go : Inside L A a δ (run.end σ j) → Dec (j ≤ i) → (run.event j).written ≡ offer L A k
         go (inl p) g = absurd (answers_hold (questions L (opened A a δ) (key room)) (at (opened A a δ) p).answer).0
@@ -100,8 +97,8 @@ meets L A run b c δ ε e k far ck =
     let v : ε₁ ≡ ε = (closest_unique L A (number e.secret') ε₁ ε a' e.own'.0 ca' e.own'.1).1 in
     let x = told_is L A run left a δ₁ b e.told ea e.tells in
     let x' = told_is L A run right a' ε₁ c e.told' ea' e.tells' in
-    let ck₁ : Closest L A (δ₁ * ε₁) k far = subst₂ (λ (p q : ℕ). Closest L A (p * q) k far) (sym u) (sym v) ck in
-    let ck₂ : Closest L A (ε₁ * δ₁) k far = subst (λ (p : ℕ). Closest L A p k far) (mul_comm δ₁ ε₁) ck₁ in (
+    let ck₁ : Closest L A (δ₁ * ε₁) k far = rw (u, v) ck in
+    let ck₂ : Closest L A (ε₁ * δ₁) k far = rw (mul_comm ε₁ δ₁) ck₁ in (
       (λ h.
           let y = take_accepted L A run left a δ₁ b e.when e.told' e.ans ea e.takes a' (number e.secret') ε₁ ca' na' x' k far ck₁ h in
           let y' = take_accepted L A run right a' ε₁ c e.when' e.told e.ans' ea' e.takes' a (number e.secret) δ₁ ca na x k far ck₂ h in (
@@ -134,7 +131,7 @@ module _ {M : Meaning} (L : Lawful M) (A : Accepted L) where
       let i = subst₂ (λ Q P. Hold (ideal_asks L A Q P)) m.0 m.1
       (ideal_holds L A p.ideal (record { standard = l.standard; fits = omega (arith, l.fits) })) in
       let n : g.off + (K L).len (poly_from L g.Q) ≤ A.m = omega (arith, l.fits, ap (K L).len m.0) in (
-        (subst (All (λ c. c < M.size)) (sym e) (codes_low L p.ideal.Q), subst (All (λ c. c < M.size)) (sym f) (codes_low L p.ideal.P)),
+        (rw e (codes_low L p.ideal.Q), rw f (codes_low L p.ideal.P)),
         (i.0, (i.1.0, (i.1.1.0, (i.1.1.1.0, (n, tt))))),
       )
 

@@ -1,39 +1,32 @@
 -- The rules fix the answer, the bytes written and the end left behind.
 use Rattle.std.proofs.Common.{◌≡◌, ℕ, ◌+◌, ◌≤◌, List, sym, refl, ap, ◌∙◌, subst, ap₂, arith}
 use mathlib.Core.HLevel.{Discrete, hedberg, is_prop→PathP, Π_prop}
+use mathlib.Core.Logic.Dec
 use native.Mathlib.Bridge.{le_prop}
 use native.Mathlib.Decide.{ℕ_discrete}
+use Rattle.std.proofs.Math.Nat.{ℕ_set}
 use Rattle.field.specs.Meaning.{Meaning, Lawful}
-use Rattle.algebra.specs.Codes.{Code, code_ext, codes, R}
-use Rattle.ring.proofs.PolyModel.{poly_ring}
+use Rattle.algebra.specs.Codes.{Code, code_ext, R, K}
 use Rattle.algebra.proofs.Settings.{root_unique}
 use Rattle.algebra.proofs.Unique.{ideal_path}
 use Rattle.algebra.proofs.Multiples.{times_unique}
-use Rattle.algebra.specs.Places.{Times}
+use Rattle.algebra.specs.Places.{Times, Place, place}
 use Rattle.rules.specs.Questions.{Answer, accepted, refused}
 use Rattle.rules.specs.Packets.{number}
 use Rattle.rules.specs.Settings.{unit, Monic, Coprime, Accepted, setting, Ideals}
 use Rattle.rules.specs.Ends.{State, blank, ready, opened, keyed, Call, load, «open», tell, take, key, close, questions, After, KeyIs, OpenLeaves, TakeLeaves, Does}
 use Rattle.rules.proofs.Answering.{answers_unique}
 use Rattle.rules.proofs.Offered.{closest_unique}
-use Rattle.algebra.specs.Places.{Place, place}
-use Rattle.algebra.specs.Codes.{K}
 
 module _ {M : Meaning} (L : Lawful M) where
   infixl 60 ◌⊕◌
   infixl 70 ◌⊗◌
   infix 80 ⊖◌
-  open poly_ring (codes L) use {r, len, coef, der}
-  open (poly_ring (codes L)).r use {◌⊕◌, ⊖◌, ◌⊗◌}
-
-  ℕ_set : (a b : ℕ) → IsProp (a ≡ b)
-  ℕ_set = hedberg ℕ_discrete
+  open K L use {r, len, coef, der}
+  open (K L).r use {◌⊕◌, ⊖◌, ◌⊗◌}
 
   pub code? : Discrete (Code M)
-  code? a b = elim (ℕ_discrete a.num b.num) [
-    | yes e ↦ yes (code_ext a b e)
-    | no n ↦ no (λ e. n (ap (λ (c : Code M). c.num) e))
-  ]
+  code? a b = Dec.of_iff (code_ext a b, ap (λ (c : Code M). c.num)) (ℕ_discrete a.num b.num)
 
   monic_prop : (p : R L) → IsProp (Monic L p)
   monic_prop p (n, e, t) (k, f, u) = λ i. (
@@ -69,11 +62,11 @@ module _ {M : Meaning} (L : Lawful M) where
 
       top : (C : Accepted L) → C.m ≡ B.m → coef C.d B.m ≡ unit L
       top C q = let (n, l, t) = C.d_monic in
-          let z : n ≡ B.m = omega (arith, C.d_len) in subst (λ (k : ℕ). coef C.d k ≡ unit L) z t
+          let z : n ≡ B.m = omega (arith, C.d_len) in rw (sym z) t
 
       dd : A.d ≡ B.d
       dd = root_unique (K L) B.D A.d B.d B.m (omega (arith, A.d_len, mm)) B.d_len (top A mm ∙ sym (top B refl))
-          (subst (λ (D : R L). len (D ⊕ ⊖ (A.d ⊗ A.d)) ≤ B.m) e (omega (arith, A.near, mm))) B.near
+          (rw (sym e) (omega (arith, A.near, mm))) B.near
 
   pub key_unique : (A : Accepted L) (δ : ℕ) (x : List ℕ) (k l : Ideals L A) → KeyIs L A δ x k → KeyIs L A δ x l → k ≡ l
   key_unique A δ x k l (b, h, (f, μ)) (c, g, (f', ν)) =

@@ -1,5 +1,5 @@
 -- An offer that one end tells is accepted by the other, or answered by 45: which, the product of the distances decides.
-use Rattle.std.proofs.Common.{◌≡◌, ℕ, ◌+◌, ◌-◌, ◌*◌, ◌<◌, ◌≢◌, List, [], ◌∷◌, ◌++◌, length, sym, refl, ap, ◌∙◌, subst, subst₂, inl, inr, arith}
+use Rattle.std.proofs.Common.{◌≡◌, ℕ, ◌+◌, ◌-◌, ◌*◌, ◌<◌, ◌≢◌, List, [], ◌∷◌, ◌++◌, length, sym, refl, ap, ◌∙◌, subst, inl, inr, arith}
 use Rattle.field.specs.Meaning.{Meaning, Lawful}
 use Rattle.algebra.proofs.Unique.{ideal_path}
 use Rattle.algebra.proofs.Multiples.{times_lawful, times_multiple, times_exists}
@@ -86,9 +86,9 @@ module _ {M : Meaning} (L : Lawful M) (A : Accepted L) where
     offer_asked_lem : Hold up_to43
     offer_asked_lem = hold_append (asks_x ++ asks_q ++ asks_p) asks_i (hold_append (asks_x ++ asks_q) asks_p (hold_append asks_x asks_q
         offer_holds.asked
-        (subst (λ x. Hold (body_asks M.size x)) offer_holds.one (body_holds L b.Q)))
-        (subst (λ x. Hold (body_asks M.size x)) offer_holds.other (body_holds L b.P)))
-        (subst₂ (λ Q P. Hold (ideal_asks L A Q P)) offer_reads.0 offer_reads.1 ideal_holds)
+        (rw (sym offer_holds.one) (body_holds L b.Q)))
+        (rw (sym offer_holds.other) (body_holds L b.P)))
+        (rw (sym offer_reads.0, sym offer_reads.1) ideal_holds)
 
     -- who reads the offer reads b
     reads_unique : (c : Ideals L A) → Reads L A (offer L A b) c → c ≡ b

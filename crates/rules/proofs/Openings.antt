@@ -1,5 +1,5 @@
 -- What an end is throughout an opening.
-use Rattle.std.proofs.Common.{◌≡◌, ℕ, zero, suc, ◌<◌, ◌≤◌, ◌≢◌, ◌⊎◌, List, refl, ◌∙◌, subst, inl, inr, arith}
+use Rattle.std.proofs.Common.{rules, ◌≡◌, ℕ, zero, suc, ◌<◌, ◌≤◌, ◌≢◌, ◌⊎◌, List, sym, refl, ◌∙◌, subst, inl, inr, arith}
 use mathlib.Core.Path.{subst₃}
 use native.Mathlib.Decide.{dec_le, dec_lt}
 use Rattle.field.specs.Meaning.{Meaning, Lawful}
@@ -13,8 +13,8 @@ use Rattle.rules.proofs.Offered.{closest_unique}
 
 pub side? : (σ τ : Side) → Dec (σ ≡ τ)
 side? left left = yes refl
-side? left right = no (λ e. (let z : ◌≡◌ {A = ℕ} 0 1 = cc in omega arith))
-side? right left = no (λ e. (let z : ◌≡◌ {A = ℕ} 0 1 = cc in omega arith))
+side? left right = no (search rules)
+side? right left = no (search rules)
 side? right right = yes refl
 
 module _ {M : Meaning} (L : Lawful M) (A : Accepted L) where
@@ -56,18 +56,14 @@ module _ {M : Meaning} (L : Lawful M) (A : Accepted L) where
     keyed_step : (a k : Ideals L A) (δ j : ℕ) → j < run.count → Quiet j → run.end σ j ≡ keyed A a δ k → run.end σ (suc j) ≡ keyed A a δ k
     keyed_step a k δ j l q e = elim (side? (run.event j).side σ) [
       | yes s ↦ keyed_stays a k δ (run.event j).call (run.event j).answer (run.event j).written (run.end σ (suc j))
-          (subst (λ x. Does L x (run.event j).call (run.event j).answer (run.event j).written (run.end σ (suc j))) e
-          (subst (λ τ. Does L (run.end τ j) (run.event j).call (run.event j).answer (run.event j).written (run.end τ (suc j))) s (run.moves j l)))
-          (q s)
+          (rw (sym e, sym s) (run.moves j l)) (q s)
       | no n ↦ run.rests j σ l n ∙ e
     ]
 
     inside_step : (a : Ideals L A) (δ j : ℕ) → j < run.count → Quiet j → Inside a δ (run.end σ j) → Inside a δ (run.end σ (suc j))
     inside_step a δ j l q (inl e) = elim (side? (run.event j).side σ) [
       | yes s ↦ opened_goes a δ (run.event j).call (run.event j).answer (run.event j).written (run.end σ (suc j))
-          (subst (λ x. Does L x (run.event j).call (run.event j).answer (run.event j).written (run.end σ (suc j))) e
-          (subst (λ τ. Does L (run.end τ j) (run.event j).call (run.event j).answer (run.event j).written (run.end τ (suc j))) s (run.moves j l)))
-          (q s)
+          (rw (sym e, sym s) (run.moves j l)) (q s)
       | no n ↦ inl (run.rests j σ l n ∙ e)
     ]
     inside_step a δ j l q (inr (k, e)) = inr (k, keyed_step a k δ j l q e)
@@ -95,8 +91,7 @@ module _ {M : Meaning} (L : Lawful M) (A : Accepted L) where
         → (a : Ideals L A) × (δ : ℕ) × Closest L A (number secret) a δ × (a ≢ unit_ideal L A) × (run.end σ (suc b) ≡ opened A a δ)
     opening_begins b secret o =
         let d : Does L (ready A) («open» secret) accepted (run.event b).written (run.end σ (suc b))
-        = subst (λ x. Does L x («open» secret) accepted (run.event b).written (run.end σ (suc b))) o.same
-        (calls_does b («open» secret) accepted o.begins) in
+        = rw (sym o.same) (calls_does b («open» secret) accepted o.begins) in
         let h = answers_hold (questions L (ready A) («open» secret)) d.answer in
         let (c, ε, cl, n) = h.1.1.0 in
         let (a, δ, ca, e) = d.after.1 in

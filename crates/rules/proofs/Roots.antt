@@ -1,9 +1,9 @@
 -- Every monic D of degree 2m has its d: load's questions are all that a setting asks for.
-use Rattle.std.proofs.Common.{◌≡◌, ℕ, zero, suc, ◌+◌, ◌≤◌, ◌≢◌, List, [], ◌∷◌, length, sym, refl, ap, ◌∙◌, subst, ap₂, arith}
+use Rattle.std.proofs.Common.{◌≡◌, ℕ, zero, suc, ◌+◌, ◌≤◌, ◌≢◌, List, [], ◌∷◌, length, sym, refl, ap, ◌∙◌, ap₂, arith}
 use native.Mathlib.Decide.{dec_le}
 use lib.ListN.{get_or-eq_default}
 use Rattle.field.specs.Meaning.{Meaning, Lawful}
-use Rattle.algebra.specs.Codes.{codes, R}
+use Rattle.algebra.specs.Codes.{codes, R, K}
 use Rattle.ring.proofs.Quote.{quote, auto}
 use Rattle.ring.proofs.Hypotheses.{by_hyp}
 use Rattle.ring.proofs.Field.{Field}
@@ -14,8 +14,7 @@ use Rattle.ring.proofs.PolyRing.{PolyRing}
 use Rattle.ring.proofs.PolyModel.{poly_ring}
 use Rattle.ring.proofs.Lengths.{len_mul_≤, longer, twice, half, top_cancel}
 use Rattle.algebra.proofs.Group.{coef_one}
-use Rattle.rules.specs.Settings.{EvenDegree, unit, Monic, Coprime, Accepted}
-use Rattle.algebra.specs.Codes.{K}
+use Rattle.rules.specs.Settings.{EvenDegree, Monic, Coprime, Accepted}
 
 module _ {C X : Type 0} (P : PolyRing C X) (mono : C → ℕ → X) (mono_len : (c : C) (n : ℕ) → P.len (mono c n) ≤ n + 1)
     (mono_coef : (c : C) (n : ℕ) → P.coef (mono c n) n ≡ c) (D : X) (m : ℕ) where
@@ -58,7 +57,7 @@ module _ {C X : Type 0} (P : PolyRing C X) (mono : C → ℕ → X) (mono_len : 
         record {
           long = longer P d t (omega arith) ∙ ld;
           monic = P.coef_add d t m ∙ ap₂ k.◌⊕◌ N.monic (P.coef_past t m (omega arith)) ∙ k.⊕-zero k.𝟙;
-          near = subst (λ (n : ℕ). n ≤ j + m) (sym (ap len same)) low;
+          near = rw same low;
         },
       )
 
@@ -118,8 +117,8 @@ module _ {C : Type 0} (F : Field C) where
   monomial_coef c n = coef_poly F (mono_l c n) n ∙ mono_l_top c n
 
 -- D that passes 21 to 23 is the D of a setting
-pub accepted_exists : {M : Meaning} (L : Lawful M) (D : R L) → EvenDegree L D → Monic L D → Coprime L D ((poly_ring (codes L)).der D) → (A : Accepted L) × (A.D ≡ D)
+pub accepted_exists : {M : Meaning} (L : Lawful M) (D : R L) → EvenDegree L D → Monic L D → Coprime L D ((K L).der D) → (A : Accepted L) × (A.D ≡ D)
 accepted_exists L D (m, l, lo, hi) (n, e, t) p =
     let z : n ≡ m + m = omega arith in
-    let (d, ld, cd, near) = root (K L) (monomial (codes L)) (monomial_len (codes L)) (monomial_coef (codes L)) D m l (subst (λ (i : ℕ). (K L).coef D i ≡ unit L) z t) in
+    let (d, ld, cd, near) = root (K L) (monomial (codes L)) (monomial_len (codes L)) (monomial_coef (codes L)) D m l (rw (sym z) t) in
     (record { D = D; m = m; d = d; low = lo; high = hi; D_len = l; D_monic = (n, e, t); plain = p; d_len = ld; d_monic = (m, ld, cd); near = near }, refl)

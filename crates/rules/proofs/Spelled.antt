@@ -1,19 +1,20 @@
 -- A polynomial's body is read back as the polynomial.
-use Rattle.std.proofs.Common.{◌≡◌, ℕ, ◌*◌, ◌<◌, ◌≤◌, ◌≢◌, List, [], ◌∷◌, ◌++◌, map, reverse, length, sym, refl, ap, ◌∙◌, subst, ap₂, arith}
+use Rattle.std.proofs.Common.{◌≡◌, ℕ, ◌*◌, ◌<◌, ◌≤◌, ◌≢◌, List, [], ◌∷◌, ◌++◌, map, reverse, length, sym, refl, ap, ◌∙◌, subst, arith}
 use mathlib.Core.List.{reverse-reverse, reverse-cons}
 use lib.ListN.{length-map, length-reverse}
 use Rattle.field.specs.Meaning.{Meaning, Lawful}
-use Rattle.algebra.specs.Codes.{Code, code, code_ext, num_code, ring_c, codes, R}
+use Rattle.algebra.specs.Codes.{Code, code, code_ext, ring_c, codes, R, K}
 use Rattle.ring.proofs.Ring.{CommRing}
 use Rattle.ring.proofs.Coeffs.{Trim}
 use Rattle.ring.proofs.Poly.{poly, coef_poly, ext}
 use Rattle.ring.proofs.PolyModel.{poly_ring}
+use Rattle.algebra.proofs.Written.{codes_numbers}
 use Rattle.rules.specs.Questions.{Hold}
-use Rattle.rules.specs.Packets.{All, words, Leads, body_asks, spell}
+use Rattle.std.specs.List.{AllByRecursion}
+use Rattle.rules.specs.Packets.{words, Leads, body_asks, spell}
 use Rattle.rules.specs.Settings.{body_of, poly_of}
 use Rattle.rules.specs.Places.{codes_of, poly_from}
 use Rattle.rules.proofs.Written.{spell_length, words_spell}
-use Rattle.algebra.specs.Codes.{K}
 
 -- the last element of a trimmed list is not zero
 trim_snoc : {C : Type 0} (r : CommRing C) (l : List C) (c : C) → Trim r (l ++ (c ∷ [])) → c ≢ r.𝟘
@@ -21,7 +22,7 @@ trim_snoc r [] c t = t
 trim_snoc r (a ∷ []) c t = t
 trim_snoc r (a ∷ (b ∷ l)) c t = trim_snoc r (b ∷ l) c t
 
-all_weaken : (p q : ℕ) → p ≤ q → (ns : List ℕ) → All (λ c. c < p) ns → All (λ c. c < q) ns
+all_weaken : (p q : ℕ) → p ≤ q → (ns : List ℕ) → AllByRecursion (λ c. c < p) ns → AllByRecursion (λ c. c < q) ns
 all_weaken p q h [] a = tt
 all_weaken p q h (n ∷ ns) a = (let l = a.0 in omega arith, all_weaken p q h ns a.1)
 
@@ -33,16 +34,12 @@ module _ {M : Meaning} (L : Lawful M) where
   unfolding poly_ring
   len_list p = refl
 
-  nums_low : (l : List (Code M)) → All (λ c. c < M.size) (nums l)
+  nums_low : (l : List (Code M)) → AllByRecursion (λ c. c < M.size) (nums l)
   nums_low [] = tt
   nums_low (c ∷ l) = (c.low, nums_low l)
 
   nums_words : (l : List (Code M)) → words (spell (nums l)) ≡ nums l
   nums_words l = words_spell (nums l) (all_weaken M.size 4294967296 (let h = L.high in omega arith) (nums l) (nums_low l))
-
-  codes_nums : (l : List (Code M)) → map (code L) (nums l) ≡ l
-  codes_nums [] = refl
-  codes_nums (c ∷ l) = ap₂ ◌∷◌ (code_ext (code L c.num) c (num_code L c.num c.low)) (codes_nums l)
 
   not_zero : (c : Code M) → c ≢ (ring_c L).𝟘 → c.num ≢ 0
   unfolding ring_c
@@ -63,8 +60,8 @@ module _ {M : Meaning} (L : Lawful M) where
   body_holds p = (
     omega (arith, body_length p),
     (
-      subst (All (λ c. c < M.size)) (sym (body_words p)) (nums_low (reverse p.list)),
-      (subst Leads (sym (body_words p)) (leads p.list (reverse p.list) (sym (reverse-reverse p.list)) p.trim), tt),
+      rw (body_words p) (nums_low (reverse p.list)),
+      (rw (body_words p) (leads p.list (reverse p.list) (sym (reverse-reverse p.list)) p.trim), tt),
     ),
   )
 
@@ -72,12 +69,12 @@ module _ {M : Meaning} (L : Lawful M) where
   poly_list p = ext (codes L) (poly (codes L) p.list) p (coef_poly (codes L) p.list)
 
   -- its codes are read back
-  pub codes_low : (p : R L) → All (λ c. c < M.size) (codes_of L p)
+  pub codes_low : (p : R L) → AllByRecursion (λ c. c < M.size) (codes_of L p)
   codes_low p = nums_low (reverse p.list)
 
   pub codes_read : (p : R L) → poly_from L (codes_of L p) ≡ p
   codes_read p =
-      ap (λ (l : List (Code M)). poly (codes L) (reverse l)) (codes_nums (reverse p.list))
+      ap (λ (l : List (Code M)). poly (codes L) (reverse l)) (codes_numbers L (reverse p.list))
       ∙ ap (poly (codes L)) (reverse-reverse p.list)
       ∙ poly_list p
 

@@ -1,48 +1,39 @@
 -- Every question has an answer, and so every end does every call.
-use Rattle.std.proofs.Common.{◌≡◌, ℕ, ◌+◌, ◌-◌, ◌/◌, ◌%◌, ◌<◌, ◌≢◌, List, [], ◌∷◌, ◌++◌, length, replicate, sym, refl, ap, ◌∙◌, subst, arith}
+use Rattle.std.proofs.Common.{◌≡◌, ℕ, ◌+◌, ◌-◌, ◌/◌, ◌%◌, ◌<◌, ◌≢◌, List, [], ◌∷◌, ◌++◌, length, replicate, sym, refl, ap, ◌∙◌, arith}
 use mathlib.Core.HLevel.{Discrete}
+use mathlib.Core.Logic.Dec
 use native.Mathlib.Decide.{ℕ_discrete, dec_le, dec_lt}
 use Rattle.field.specs.Meaning.{Meaning, Lawful}
-use Rattle.algebra.specs.Codes.{codes, R}
-use Rattle.ring.proofs.Ring.{⊗-zero, sub_self→eq}
+use Rattle.algebra.specs.Codes.{R, K}
+use Rattle.ring.proofs.Ring.{⊗-zero, sub_self→eq, Divides}
 use Rattle.ring.proofs.Quote.{quote, auto}
 use Rattle.ring.proofs.Hypotheses.{by_hyp₂}
 use Rattle.ring.proofs.PolyRing.{PolyRing}
-use Rattle.ring.proofs.PolyModel.{poly_ring}
 use Rattle.ring.proofs.Euclid.{gcd, common_len, remainder_unique}
 use Rattle.algebra.proofs.Unique.{ideal_path}
 use Rattle.algebra.proofs.Multiples.{times_exists}
 use Rattle.algebra.proofs.Line.{place_exists, place_closest}
 use Rattle.rules.specs.Questions.{Question, Answer, accepted, refused, Answers, Hold, ◌if_not◌}
-use Rattle.rules.specs.Packets.{All, number, byte, kind, start, long, first, second, body, words, Leads, packet_asks, body_asks}
+use Rattle.std.specs.List.{AllByRecursion}
+use Rattle.rules.specs.Packets.{number, byte, kind, start, long, first, second, body, words, Leads, packet_asks, body_asks}
 use Rattle.rules.specs.Settings.{EvenDegree, unit, Monic, Coprime, Accepted, setting, Ideals, unit_ideal, poly_of}
 use Rattle.rules.specs.Ends.{State, blank, ready, opened, keyed, Call, load, «open», tell, take, key, close, BlankOrReady, Ready, Open, Keyed, OpenOrKeyed, OpensTo, ideal_asks, Reads, Other, KeyIs, OtherKey, SizeIs, offered, offered_key, secret_asks, offer_asks, closed, wiped, questions, Leaves, Does, Settled}
 use Rattle.rules.proofs.Answering.{Decided, answers_exist, answers_hold}
 use Rattle.rules.proofs.Offered.{closest_unique}
 use Rattle.rules.proofs.Determined.{code?, key_unique, does_unique}
 use Rattle.rules.proofs.Roots.{accepted_exists}
-use Rattle.ring.proofs.Ring.{Divides}
 use Rattle.algebra.specs.Places.{place}
-use Rattle.algebra.specs.Codes.{K}
 
-both : {A B : Type 0} → Dec A → Dec B → Dec (A × B)
-both (yes a) (yes b) = yes (a, b)
-both (yes a) (no n) = no (λ p. n p.1)
-both (no n) d = no (λ p. n p.0)
+and₃ : {A B C : Type 0} → Dec A → Dec B → Dec C → Dec (A × B × C)
+and₃ a b c = Dec.of_iff (λ h. (h.0, h.1.0, h.1.1), λ h. (h.0, (h.1, h.2))) (Dec.and a (Dec.and b c))
 
-both₃ : {A B C : Type 0} → Dec A → Dec B → Dec C → Dec (A × B × C)
-both₃ (yes a) (yes b) (yes c) = yes (a, b, c)
-both₃ (yes a) (yes b) (no n) = no (λ p. n p.2)
-both₃ (yes a) (no n) d = no (λ p. n p.1)
-both₃ (no n) c d = no (λ p. n p.0)
-
-all_low? : (q : ℕ) (ns : List ℕ) → Dec (All (λ c. c < q) ns)
+all_low? : (q : ℕ) (ns : List ℕ) → Dec (AllByRecursion (λ c. c < q) ns)
 all_low? q [] = yes tt
-all_low? q (n ∷ ns) = both (dec_lt n q) (all_low? q ns)
+all_low? q (n ∷ ns) = Dec.and (dec_lt n q) (all_low? q ns)
 
 leads? : (ns : List ℕ) → Dec (Leads ns)
 leads? [] = yes tt
-leads? (n ∷ ns) = elim (ℕ_discrete n 0) [ yes e ↦ no (λ h. h e) | no h ↦ yes h ]
+leads? (n ∷ ns) = Dec.not (ℕ_discrete n 0)
 
 decided_append : (qs rs : List Question) → Decided qs → Decided rs → Decided (qs ++ rs)
 decided_append [] rs d e = e
@@ -54,8 +45,8 @@ packet? k l x = (
   (
     ℕ_discrete (byte x 0) 2,
     (
-      both (ℕ_discrete (kind x first) k) (ℕ_discrete (kind x second) l),
-      (both₃ (ℕ_discrete (start x first) 11) (ℕ_discrete (start x second) (11 + long x first)) (ℕ_discrete (length x) (start x second + long x second)), tt),
+      Dec.and (ℕ_discrete (kind x first) k) (ℕ_discrete (kind x second) l),
+      (and₃ (ℕ_discrete (start x first) 11) (ℕ_discrete (start x second) (11 + long x first)) (ℕ_discrete (length x) (start x second + long x second)), tt),
     ),
   ),
 )
@@ -71,18 +62,15 @@ module _ {C X : Type 0} (P : PolyRing C X) where
   open P.r use {𝟘, 𝟙, ◌⊕◌, ⊖◌, ◌⊗◌}
 
   poly? : Discrete X
-  poly? p q = elim (P.zero? (p ⊕ ⊖ q)) [
-    | yes e ↦ yes (sub_self→eq r p q e)
-    | no n ↦ no (λ e. n (ap (λ x. x ⊕ ⊖ q) e ∙ r.⊕-neg q))
-  ]
+  poly? p q = Dec.of_iff (sub_self→eq r p q, λ e. ap (λ x. x ⊕ ⊖ q) e ∙ r.⊕-neg q) (P.zero? (p ⊕ ⊖ q))
 
   divides? : (Q Y : X) → Q ≢ 𝟘 → Dec (Divides r Q Y)
   divides? Q Y h =
       let (q, s, e, l) = P.divide Y Q h in
-      elim (P.zero? s) [
-        | yes z ↦ yes (q, e ∙ ap (λ x. q ⊗ Q ⊕ x) z ∙ r.⊕-zero (q ⊗ Q))
-        | no n ↦ no (λ d. n (remainder_unique P Q q s d.0 𝟘 (sym e ∙ d.1 ∙ sym (r.⊕-zero (d.0 ⊗ Q))) l (omega (arith, P.len_zero))))
-      ]
+      Dec.of_iff (
+        λ z. (q, e ∙ ap (λ x. q ⊗ Q ⊕ x) z ∙ r.⊕-zero (q ⊗ Q)),
+        λ d. remainder_unique P Q q s d.0 𝟘 (sym e ∙ d.1 ∙ sym (r.⊕-zero (d.0 ⊗ Q))) l (omega (arith, P.len_zero)),
+      ) (P.zero? s)
 
   divides_any? : (Q Y : X) → Dec (Divides r Q Y)
   divides_any? Q Y = elim (P.zero? Q) [
@@ -110,24 +98,22 @@ module _ {M : Meaning} (L : Lawful M) where
     | yes e ↦ no (λ h. (let l = h.1 in absurd (omega arith)))
     | no n ↦ elim (code? L ((K L).coef p ((K L).len p - 1)) (unit L)) [
       | yes t ↦ yes ((K L).len p - 1, omega arith, t)
-      | no f ↦ no (λ h. f (let l = h.1 in let z : h.0 ≡ (K L).len p - 1 = omega arith in subst (λ (i : ℕ). (K L).coef p i ≡ unit L) z h.2))
+      | no f ↦ no (λ h. f (let l = h.1 in let z : h.0 ≡ (K L).len p - 1 = omega arith in rw (sym z) h.2))
     ]
   ]
 
   even? : (D : R L) → Dec (EvenDegree L D)
   even? D =
       let n : ℕ = (K L).len D / 2 in
-      elim (both₃ (ℕ_discrete ((K L).len D) (n + n + 1)) (dec_le 2 n) (dec_le n 25)) [
-        | yes h ↦ yes (n, h.0, h.1, h.2)
-        | no f ↦ no (λ h. (let a = h.1 in let b = h.2 in let c = h.3 in f (omega arith, omega arith, omega arith)))
-      ]
+      Dec.of_iff (λ h. (n, h.0, h.1, h.2), λ h. (let a = h.1 in let b = h.2 in let c = h.3 in (omega arith, omega arith, omega arith)))
+      (and₃ (ℕ_discrete ((K L).len D) (n + n + 1)) (dec_le 2 n) (dec_le n 25))
 
   module _ (A : Accepted L) where
     ideal? : (a b : Ideals L A) → Dec (a ≡ b)
-    ideal? a b = elim (both (poly? (K L) a.Q b.Q) (poly? (K L) a.P b.P)) [
-      | yes h ↦ yes (ideal_path (K L) (setting L A) a b h.0 h.1)
-      | no n ↦ no (λ e. n (ap (λ (x : Ideals L A). x.Q) e, ap (λ (x : Ideals L A). x.P) e))
-    ]
+    ideal? a b = Dec.of_iff (
+      λ h. ideal_path (K L) (setting L A) a b h.0 h.1,
+      λ e. (ap (λ (x : Ideals L A). x.Q) e, ap (λ (x : Ideals L A). x.P) e),
+    ) (Dec.and (poly? (K L) a.Q b.Q) (poly? (K L) a.P b.P))
 
     opens? : (n : List ℕ) → Dec (OpensTo L A n)
     opens? n =
@@ -145,8 +131,7 @@ module _ {M : Meaning} (L : Lawful M) where
           | yes z ↦ no (λ h. h.0.alive (h.1.0 ∙ z))
           | no f ↦ elim (divides? (K L) Q ((K L).r.◌⊕◌ A.D ((K L).r.⊖◌ ((K L).r.◌⊗◌ P P))) f) [
             | yes d ↦ yes (record { Q = Q; P = P; alive = f; exact = d }, (refl, refl))
-            | no g ↦ no (λ h. g (subst (λ (q : R L). Divides (K L).r q ((K L).r.◌⊕◌ A.D ((K L).r.⊖◌ ((K L).r.◌⊗◌ P P)))) h.1.0
-                (subst (λ (p : R L). Divides (K L).r h.0.Q ((K L).r.◌⊕◌ A.D ((K L).r.⊖◌ ((K L).r.◌⊗◌ p p)))) h.1.1 h.0.exact)))
+            | no g ↦ no (λ h. g (rw (sym h.1.0, sym h.1.1) h.0.exact))
           ]
         ]
 
@@ -183,7 +168,7 @@ module _ {M : Meaning} (L : Lawful M) where
         (decided_append (packet_asks 3 4 x ++ body_asks M.size (body x first)) (body_asks M.size (body x second))
         (decided_append (packet_asks 3 4 x) (body_asks M.size (body x first)) (packet? 3 4 x) (body? M.size (body x first)))
         (body? M.size (body x second))) (
-          both (dec_le 1 ((K L).len Q)) (dec_le ((K L).len Q) A.m),
+          Dec.and (dec_le 1 ((K L).len Q)) (dec_le ((K L).len Q) A.m),
           (
             monic? Q,
             (
@@ -238,16 +223,16 @@ module _ {M : Meaning} (L : Lawful M) where
 
   load? : (x : List ℕ) → Decided ((SizeIs L (body x first) if_not 20) ∷ body_asks M.size (body x second)
       ++ (EvenDegree L (poly_of L (body x second)) if_not 21) ∷ (Monic L (poly_of L (body x second)) if_not 22)
-      ∷ (Coprime L (poly_of L (body x second)) ((poly_ring (codes L)).der (poly_of L (body x second))) if_not 23) ∷ [])
+      ∷ (Coprime L (poly_of L (body x second)) ((K L).der (poly_of L (body x second))) if_not 23) ∷ [])
   load? x = let D = poly_of L (body x second) in (
-    both (ℕ_discrete (length (body x first)) 4) (ℕ_discrete (number (body x first)) M.size),
+    Dec.and (ℕ_discrete (length (body x first)) 4) (ℕ_discrete (number (body x first)) M.size),
     (
       ℕ_discrete (length (body x second) % 4) 0,
       (
         all_low? M.size (words (body x second)),
         (
           leads? (words (body x second)),
-          (even? D, (monic? D, (coprime? (K L) D ((poly_ring (codes L)).der D), tt))),
+          (even? D, (monic? D, (coprime? (K L) D ((K L).der D), tt))),
         ),
       ),
     ),
@@ -256,7 +241,7 @@ module _ {M : Meaning} (L : Lawful M) where
   -- every question of every call has the answer yes or no
   pub questions_decided : (s : State L) (c : Call) → Decided (questions L s c)
   questions_decided s (load x) = let p = packet? 1 2 x in (ready_blank? s, (p.0, (p.1.0, (p.1.1.0, (p.1.1.1.0, load? x)))))
-  questions_decided s («open» n) = (ready? s, (both (dec_le 1 (length n)) (dec_le (length n) 32), secret? s n))
+  questions_decided s («open» n) = (ready? s, (Dec.and (dec_le 1 (length n)) (dec_le (length n) 32), secret? s n))
   questions_decided s (tell room) = (open_keyed? s, (dec_le (length (offered L s)) room, tt))
   questions_decided s (take x) = (open? s, taken? s x)
   questions_decided s (key room) = (keyed? s, (dec_le (length (offered_key L s)) room, tt))

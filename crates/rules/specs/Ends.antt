@@ -1,8 +1,7 @@
 -- Ends: what an end is, the calls, the questions of each call in their order, and what an accepted call leaves.
 use Rattle.std.specs.Prelude.{◌≡◌, ℕ, ◌<◌, ◌≤◌, ◌≢◌, List, [], ◌∷◌, ◌++◌, length, replicate}
 use Rattle.field.specs.Meaning.{Meaning, Lawful}
-use Rattle.algebra.specs.Codes.{codes, R}
-use Rattle.ring.proofs.PolyModel.{poly_ring}
+use Rattle.algebra.specs.Codes.{R, K}
 use Rattle.rules.specs.Questions.{Question, ◌if_not◌, Answer, accepted, refused, Answers}
 use Rattle.rules.specs.Packets.{number, packet_asks, body_asks, body, first, second}
 use Rattle.rules.specs.Settings.{Monic, setting_asks, Accepted, Ideals, unit_ideal, Closest, MultipleOf, poly_of, offer}
@@ -28,8 +27,8 @@ module _ {M : Meaning} (L : Lawful M) where
   infixl 60 ◌⊕◌
   infixl 70 ◌⊗◌
   infix 80 ⊖◌
-  open poly_ring (codes L) use {r, len, der}
-  open (poly_ring (codes L)).r use {◌⊕◌, ⊖◌, ◌⊗◌}
+  open K L use {r, len, der}
+  open (K L).r use {◌⊕◌, ⊖◌, ◌⊗◌}
 
   abbrev pub BlankOrReady : State L → Type 0
   BlankOrReady blank = Unit {0}

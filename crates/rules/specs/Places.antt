@@ -1,15 +1,15 @@
 -- Find and add: places handed in and given out. Both leave the end unchanged.
 use Rattle.std.specs.Prelude.{◌≡◌, ℕ, ◌+◌, ◌<◌, ◌≤◌, List, [], ◌∷◌, ◌++◌, map, reverse, length}
 use Rattle.field.specs.Meaning.{Meaning, Lawful}
-use Rattle.algebra.specs.Codes.{Code, code, codes, R}
+use Rattle.algebra.specs.Codes.{Code, code, codes, R, K}
 use Rattle.ring.proofs.Poly.{poly}
 use Rattle.rules.specs.Questions.{Question, ◌if_not◌}
-use Rattle.rules.specs.Packets.{All, number}
+use Rattle.std.specs.List.{AllByRecursion}
+use Rattle.rules.specs.Packets.{number}
 use Rattle.rules.specs.Settings.{Accepted, setting}
 use Rattle.rules.specs.Ends.{State, blank, ready, opened, keyed, ideal_asks}
 use Rattle.algebra.specs.Places.{Place, Adds}
 use Rattle.algebra.specs.Lines.{PlaceAt}
-use Rattle.algebra.specs.Codes.{K}
 
 -- a place as it is handed in and given out: the codes of Q and of P, the highest degree first, and the offset
 pub record Given : Type 0 where
@@ -37,7 +37,7 @@ module _ {M : Meaning} (L : Lawful M) where
 
   -- the questions of a place: 15, 40 to 43, and: is the offset below m − deg Q? If not, 46
   abbrev pub Low : Given → Type 0
-  Low g = All (λ c. c < M.size) g.Q × All (λ c. c < M.size) g.P
+  Low g = AllByRecursion (λ c. c < M.size) g.Q × AllByRecursion (λ c. c < M.size) g.P
 
   abbrev pub place_asks : Accepted L → Given → List Question
   place_asks A g =

@@ -9,15 +9,11 @@ ghost use Rattle.rules.specs.Ends.{Settled};
 ghost use Rattle.rules.specs.Runs.{Agreement};
 
 /// Names the theorem: two ends that do as the rules say agree.
-pub fn agreement_stands() -> u8
+pub fn agreement_stands()
     ensures { Agreement }
-{
-    0
-}
+{}
 
 /// Names the theorem: the rules give every call at every end one answer.
-pub fn rules_settle() -> u8
+pub fn rules_settle()
     ensures { Settled }
-{
-    0
-}
+{}

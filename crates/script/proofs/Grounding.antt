@@ -1,6 +1,7 @@
 -- The setting that was read is accepted over a lawful field.
-use Rattle.std.proofs.Common.{◌≡◌, ℕ, ◌-◌, ◌<◌, List, length, Ok, Err, Result, sym, ◌∙◌, subst, ⊎_elim, arith}
-use Rattle.std.proofs.lemmas.Bool.{cases_lt}
+use Rattle.std.proofs.Common.{◌≡◌, ℕ, ◌-◌, ◌<◌, List, length, Ok, Err, Result, IfOk, MatchResult, sym, ap, ◌∙◌, subst, ⊎_elim, arith}
+use Rattle.std.proofs.lemmas.Bool.{cases_lt, false≢true}
+use Rattle.std.specs.Result.{is_ok}
 use Rattle.field.specs.Meaning.{Meaning, Lawful}
 use Rattle.field.specs.declared.refusal.Refusal.{Refusal}
 use Rattle.rules.specs.Settings.{Accepted}
@@ -31,3 +32,9 @@ grounded {M = M} {cs = cs} {r = r} {s = s} e h L = ⊎_elim (λ x. absurd (never
         let made : SettingMade M x.0 (Ok s) = subst (λ (y : Result Setting Refusal). SettingMade M x.0 y) e x.2 in
         let (A, same, is) = (made L _ (self L x.0 (all_codes x.0 L x.1))).1 in
         (A, is)
+
+-- what holds of a value holds of it after its error is turned into another
+pub turned : {T E D : Type 0} (P : T → Type 0) (Q : E → Type 0) (r : Result T E) (s : Result T D) (x : T) → IfOk r P
+    → MatchResult r (λ y. s ≡ Ok y) Q → is_ok s ≡ is_ok r → s ≡ Ok x → P x
+turned P Q (Ok y) s x h e v is = let same : y ≡ x = cc (e, is) in subst P same h
+turned P Q (Err d) s x h e v is = absurd (false≢true (sym v ∙ ap is_ok is))

@@ -22,13 +22,13 @@ Grounded f s = (L : LawfulTower f) × (A : Accepted L) × SettingIs L A s
 
 -- a plan on firm ground that is not too long
 abbrev pub SoundPlan : Plan → Type 0
-SoundPlan p = Grounded p.field p.setting × (p.steps ≤ 1000000)
+SoundPlan p = Grounded p.curve.field p.curve.setting × (p.steps ≤ 1000000)
 
 -- the same of as much as has been read
 abbrev pub Sound : Draft → Type 0
 Sound Blank = Unit {0}
 Sound (Field f) = LawfulTower f
-Sound (Ground f s) = Grounded f s
+Sound (Ground c) = Grounded c.field c.setting
 Sound (Whole p) = SoundPlan p
 
 -- the number of steps on a line is not too large

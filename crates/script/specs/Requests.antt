@@ -1,5 +1,5 @@
 -- The place that answers a request.
-use Rattle.std.specs.Prelude.{◌≡◌, ℕ, ◌+◌, ◌*◌}
+use Rattle.std.specs.Prelude.{ℕ, ◌+◌, ◌*◌}
 use Rattle.field.specs.Meaning.{Meaning, Lawful}
 use Rattle.rules.specs.Packets.{number}
 use Rattle.rules.specs.Settings.{Accepted}
@@ -19,7 +19,3 @@ place_number (Multiple n t) = number n.bytes * number t.bytes
 -- r is the place of that number
 pub record Asked (M : Meaning) (s : Setting) (q : Request) (r : Place) : Type 0 where
   pub holds : (L : Lawful M) (A : Accepted L) → SettingIs L A s → HoldsAt L A (place_number q) r
-
--- r answers every request that is q; so a match on a request can use it
-abbrev pub AnswersTo : Meaning → Setting → Request → Place → Type 0
-AnswersTo M s q r = (p : Request) → p ≡ q → Asked M s p r

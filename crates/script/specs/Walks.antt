@@ -23,7 +23,7 @@ Start x = (M : Meaning) (s : Setting) → OnLine M s x
 
 -- the stop is on the line of the plan
 abbrev pub OnPlan : Plan → Stop → Type 0
-OnPlan p x = OnLine (tower_meaning p.field) p.setting x
+OnPlan p x = OnLine (tower_meaning p.curve.field) p.curve.setting x
 
 -- the walk of the plan stands at the start
 abbrev pub Ready : Plan → Walk → Type 0

@@ -1,5 +1,9 @@
 // What is wrong with an input, and on which line.
+ghost use Rattle.std.specs.Prelude.{◌≡◌};
+ghost use Rattle.script.specs.declared.fault.Problem.TheVariants.{Refused};
+
 use field::Refusal;
+use std::error::Error;
 use std::fmt;
 
 #[derive(Clone, Copy, PartialEq, Eq, Debug)]
@@ -33,6 +37,8 @@ pub struct Fault {
 }
 
 impl From<Refusal> for Problem {
+    ghost from_gives = { λ refusal problem. problem ≡ Refused refusal };
+
     fn from(refusal: Refusal) -> Problem {
         Problem::Refused(refusal)
     }
@@ -77,3 +83,7 @@ impl fmt::Display for Fault {
         write!(f, "line {line}: {what}")
     }
 }
+
+impl Error for Problem {}
+
+impl Error for Fault {}

@@ -14,12 +14,10 @@ fn polynomial<F: Field>(f: &F, codes: &Codes) -> Result<Poly, Refusal>
 {
     let size = f.size();
     let list = codes.as_slice();
-    for code in list {
-        if *code >= size {
-            return Err(Refusal::CodeTooLarge);
-        }
+    if list.iter().any(|code| *code >= size) {
+        return Err(Refusal::CodeTooLarge);
     }
-    if list.len() > 0 && list[0] == 0 {
+    if list.first() == Some(&0) {
         return Err(Refusal::LeadingZero);
     }
     Ok(codes.polynomial())

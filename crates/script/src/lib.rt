@@ -25,5 +25,5 @@ pub use request::{Placed, Request};
 pub use show::Shown;
 pub use text::text_of;
 pub use walk::{Stop, Walk};
-pub use wide::{Wide, wide_number};
+pub use wide::Wide;
 pub use words::Words;

@@ -1,5 +1,5 @@
 // What the program `line` is asked for.
-ghost use Rattle.std.specs.Prelude.{◌≤◌, IfSome, IfOk};
+ghost use Rattle.std.specs.Prelude.{IfSome, IfOk};
 ghost use Rattle.script.specs.Plans.{Short, Sound, SoundPlan};
 
 use crate::codes::Codes;
@@ -7,7 +7,7 @@ use crate::fault::{Fault, Problem};
 use crate::ground::setting;
 use crate::request::Request;
 use crate::words::Words;
-use ideal::Setting;
+use ideal::Curve;
 use tower::Tower;
 
 // How many steps may be asked for.
@@ -15,13 +15,12 @@ const MOST_STEPS: u32 = 1000000;
 
 #[derive(Clone, Copy)]
 pub struct Plan {
-    pub field: Tower,
-    pub setting: Setting,
+    pub curve: Curve<Tower>,
     pub steps: u32,
 }
 
 // What stands on a line.
-#[derive(Clone, Copy)]
+#[derive(Drop)]
 enum Item {
     Prime(u32),
     Extend(u32),
@@ -30,21 +29,12 @@ enum Item {
     Ask(Request),
 }
 
-impl Item {
-    fn request(self) -> Option<Request> {
-        match self {
-            Item::Ask(request) => Some(request),
-            _ => None,
-        }
-    }
-}
-
 // How far the reading has come.
 #[derive(Clone, Copy)]
 enum Draft {
     Blank,
     Field(Tower),
-    Ground(Tower, Setting),
+    Ground(Curve<Tower>),
     Whole(Plan),
 }
 
@@ -74,76 +64,25 @@ fn item_on(line: &str) -> Result<Option<Item>, Problem>
 }
 
 impl Draft {
-    // The prime field comes first.
-    fn prime(self, p: u32) -> Result<Draft, Problem>
-        ensures { IfOk result Sound }
-    {
-        match self {
-            Draft::Blank => Ok(Draft::Field(Tower::prime(p)?)),
-            _ => Err(Problem::Misplaced),
-        }
-    }
-
-    // Extensions follow it.
-    fn extend(self, n: u32) -> Result<Draft, Problem>
-        requires { Sound self }
-        ensures { IfOk result Sound }
-    {
-        match self {
-            Draft::Field(field) => Ok(Draft::Field(field.extend(n)?)),
-            _ => Err(Problem::Misplaced),
-        }
-    }
-
-    // The setting ends them.
-    fn setting(self, codes: &Codes) -> Result<Draft, Problem>
-        requires { Sound self }
-        ensures { IfOk result Sound }
-    {
-        match self {
-            Draft::Field(field) => Ok(Draft::Ground(field, setting(&field, codes)?)),
-            _ => Err(Problem::Misplaced),
-        }
-    }
-
-    // The number of steps ends what must be there.
-    fn steps(self, steps: u32) -> Result<Draft, Problem>
-        requires sound { Sound self }
-        requires short { steps ≤ 1000000 }
-        ensures { IfOk result Sound }
-    {
-        match self {
-            Draft::Ground(field, setting) => Ok(Draft::Whole(Plan {
-                field,
-                setting,
-                steps,
-            })),
-            _ => Err(Problem::Misplaced),
-        }
-    }
-
-    // Questions about places may follow, and change nothing.
-    fn ask(self) -> Result<Draft, Problem>
-        requires { Sound self }
-        ensures { IfOk result Sound }
-    {
-        match self {
-            Draft::Whole(plan) => Ok(Draft::Whole(plan)),
-            _ => Err(Problem::Misplaced),
-        }
-    }
-
+    // The prime field comes first, extensions follow it, and the setting ends them; the number of steps ends what must be
+    // there. Questions about places may follow, and change nothing.
     fn with(self, item: Item) -> Result<Draft, Problem>
         requires sound { Sound self }
         requires short { Short item }
         ensures { IfOk result Sound }
     {
-        match item {
-            Item::Prime(p) => self.prime(p),
-            Item::Extend(n) => self.extend(n),
-            Item::Setting(codes) => self.setting(&codes),
-            Item::Steps(steps) => self.steps(steps),
-            Item::Ask(_) => self.ask(),
+        match (self, item) {
+            (Draft::Blank, Item::Prime(p)) => Ok(Draft::Field(Tower::prime(p)?)),
+            (Draft::Field(field), Item::Extend(n)) => Ok(Draft::Field(field.extend(n)?)),
+            (Draft::Field(field), Item::Setting(codes)) => {
+                let setting = setting(&field, &codes)?;
+                Ok(Draft::Ground(Curve { field, setting }))
+            }
+            (Draft::Ground(curve), Item::Steps(steps)) => {
+                Ok(Draft::Whole(Plan { curve, steps }))
+            }
+            (Draft::Whole(plan), Item::Ask(_)) => Ok(Draft::Whole(plan)),
+            _ => Err(Problem::Misplaced),
         }
     }
 
@@ -164,18 +103,16 @@ pub fn read(text: &str) -> Result<Plan, Fault>
     ensures { IfOk result SoundPlan }
 {
     let mut draft = Draft::Blank;
-    let mut count: usize = 0;
-    for line in text.lines() {
-        count = count.saturating_add(1);
-        match draft.line(line) {
-            Ok(next) => draft = next,
-            Err(what) => return Err(Fault { line: count, what }),
-        }
+    for (k, line) in text.lines().enumerate() {
+        draft = draft.line(line).map_err(|what| Fault {
+            line: k.saturating_add(1),
+            what,
+        })?;
     }
     match draft {
         Draft::Whole(plan) => Ok(plan),
         _ => Err(Fault {
-            line: count.saturating_add(1),
+            line: text.lines().count().saturating_add(1),
             what: Problem::Unfinished,
         }),
     }
@@ -184,7 +121,7 @@ pub fn read(text: &str) -> Result<Plan, Fault>
 // The question about places on a line, if there is one.
 pub fn request_on(line: &str) -> Option<Request> {
     match item_on(line) {
-        Ok(Some(item)) => item.request(),
+        Ok(Some(Item::Ask(request))) => Some(request),
         _ => None,
     }
 }

@@ -1,10 +1,10 @@
 // A question about places, each of them named by its number.
-ghost use Rattle.script.specs.Requests.{Asked, AnswersTo};
+ghost use Rattle.script.specs.Requests.{Asked};
 
 use crate::show::Shown;
 use crate::wide::Wide;
 use field::Field;
-use ideal::Setting;
+use ideal::Curve;
 use place::Place;
 use std::fmt;
 
@@ -18,37 +18,19 @@ pub enum Request {
     Multiple(Wide, Wide),
 }
 
-// Place n.
-fn found<F: Field>(f: &F, setting: &Setting, n: &Wide) -> Place
-    ensures { AnswersTo (F.meaning f.now) setting.now (Request.Find n.now) result }
-{
-    Place::find(f, setting, n.as_slice())
-}
-
-// The sum of place s and place t.
-fn sum<F: Field>(f: &F, setting: &Setting, s: &Wide, t: &Wide) -> Place
-    ensures { AnswersTo (F.meaning f.now) setting.now (Request.Add s.now t.now) result }
-{
-    let other = found(f, setting, t);
-    found(f, setting, s).add(f, setting, &other)
-}
-
-// n times place t.
-fn multiple<F: Field>(f: &F, setting: &Setting, n: &Wide, t: &Wide) -> Place
-    ensures { AnswersTo (F.meaning f.now) setting.now (Request.Multiple n.now t.now) result }
-{
-    found(f, setting, t).multiple(f, setting, n.as_slice())
-}
-
 impl Request {
     // The place that is asked for.
-    pub fn place<F: Field>(&self, f: &F, setting: &Setting) -> Place
-        ensures { Asked (F.meaning f.now) setting.now self.now result }
+    pub fn place<F: Field>(&self, curve: &Curve<F>) -> Place
+        ensures { Asked (F.meaning curve.now.field) curve.now.setting self.now result }
     {
-        match *self {
-            Request::Find(n) => found(f, setting, &n),
-            Request::Add(s, t) => sum(f, setting, &s, &t),
-            Request::Multiple(n, t) => multiple(f, setting, &n, &t),
+        match self {
+            Request::Find(n) => Place::find(curve, n.as_slice()),
+            Request::Add(s, t) => {
+                Place::find(curve, s.as_slice()).add(curve, &Place::find(curve, t.as_slice()))
+            }
+            Request::Multiple(n, t) => {
+                Place::find(curve, t.as_slice()).multiple(curve, n.as_slice())
+            }
         }
     }
 }

@@ -28,20 +28,15 @@ impl fmt::Display for Term {
 
 impl fmt::Display for Shown<'_> {
     fn fmt<W: fmt::Write>(&self, f: &mut fmt::Formatter<W>) -> fmt::Result {
-        let len = self.0.len();
-        if len == 0 {
+        let Some(degree) = self.0.len().checked_sub(1) else {
             return f.write_str("0");
-        }
-        for i in 0..len {
-            let k = len - 1 - i;
-            let term = Term {
-                c: self.0.coeff(k),
-                k,
-            };
-            if i > 0 && term.c > 0 {
-                f.write_str(" + ")?;
-            }
-            if term.c > 0 {
+        };
+        for (k, c) in self.0.codes().iter().copied().enumerate().rev() {
+            if c > 0 {
+                if k < degree {
+                    f.write_str(" + ")?;
+                }
+                let term = Term { c, k };
                 write!(f, "{term}")?;
             }
         }

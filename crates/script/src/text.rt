@@ -6,27 +6,19 @@ use std::str::from_utf8;
 
 // The number of the line that follows these bytes.
 fn line_after(bytes: &[u8]) -> usize {
-    let mut line: usize = 1;
-    for b in bytes {
-        if *b == b'\n' {
-            line = line.saturating_add(1);
-        }
-    }
-    line
+    bytes
+        .iter()
+        .filter(|b| **b == b'\n')
+        .count()
+        .saturating_add(1)
 }
 
 // What was read as text; the fault is on the line where it stops to be text.
 pub fn text_of(bytes: &[u8]) -> Result<&str, Fault>
     ensures { MatchResult result (λ s. s.now ≡ bytes.now) (λ e. (e.what ≡ Problem.NotText) × (IsUtf8 bytes.now → ⊥)) }
 {
-    match from_utf8(bytes) {
-        Ok(text) => Ok(text),
-        Err(e) => {
-            let line = line_after(&bytes[0..e.valid_up_to()]);
-            Err(Fault {
-                line,
-                what: Problem::NotText,
-            })
-        }
-    }
+    from_utf8(bytes).map_err(|e| Fault {
+        line: line_after(&bytes[..e.valid_up_to()]),
+        what: Problem::NotText,
+    })
 }

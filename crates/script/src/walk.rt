@@ -12,7 +12,8 @@ pub struct Stop {
     pub ideal: Ideal,
 }
 
-// The stops of a plan, one for the start and one for each step.
+// The stops of a plan, one for the start and one for each step. A type of its own rather than a chain, as what is promised of
+// each stop names the plan and how many are left.
 #[derive(Drop)]
 pub struct Walk<'a> {
     plan: &'a Plan,

@@ -7,7 +7,7 @@ ghost use Rattle.script.specs.Wording.{rest_of, HasNoWord, NextWord};
 use crate::codes::Codes;
 use crate::fault::Problem;
 use crate::numbers::number;
-use crate::wide::{Wide, wide_number};
+use crate::wide::Wide;
 use std::str::SplitWhitespace;
 
 #[derive(Drop)]
@@ -36,28 +36,19 @@ impl<'a> Words<'a> {
         ensures small { IfOk result (λ n. n ≤ most) }
         ensures read { (HasNoWord (rest_of self.old) × (result ≡ Err Problem.MissingNumber) × (self.new ≡ self.old)) ⊎ ((w : List ℕ) × NextWord (rest_of self.old) w (rest_of self.new) × NumberRead most w result) }
     {
-        match self.word() {
-            None => Err(Problem::MissingNumber),
-            Some(word) => number(word, most),
-        }
+        number(self.word().ok_or(Problem::MissingNumber)?, most)
     }
 
     // The next word as a number of 32 bytes at most.
     pub(crate) fn wide_number(&mut self) -> Result<Wide, Problem> {
-        match self.word() {
-            None => Err(Problem::MissingNumber),
-            Some(word) => wide_number(word),
-        }
+        self.word().ok_or(Problem::MissingNumber)?.parse()
     }
 
-    // The words that are left as the codes of a polynomial, of which there is one at least. The loop ends before its count does:
-    // 128 codes are all that fit.
+    // The words that are left as the codes of a polynomial, of which there is one at least.
     pub(crate) fn codes(&mut self) -> Result<Codes, Problem> {
-        let mut codes = Codes::new(self.number(u32::MAX)?);
-        for _ in 0..128usize {
-            let Some(word) = self.word() else {
-                return Ok(codes);
-            };
+        let mut codes = Codes::none();
+        codes.push(self.number(u32::MAX)?)?;
+        for word in &mut self.rest {
             codes.push(number(word, u32::MAX)?)?;
         }
         Ok(codes)

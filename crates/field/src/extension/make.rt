@@ -23,10 +23,8 @@ impl<F: Field + Drop> Extension<F> {
         if n >= q {
             return Err(Refusal::NotACode);
         }
-        for x in 0..q {
-            if base.mul(x, x) == n {
-                return Err(Refusal::Square);
-            }
+        if (0..q).any(|x| base.mul(x, x) == n) {
+            return Err(Refusal::Square);
         }
         Ok(Extension { base, n, q })
     }

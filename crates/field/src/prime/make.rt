@@ -10,23 +10,12 @@ use crate::refusal::Refusal;
 
 const MODULI: [u32; 10] = [3, 5, 7, 11, 13, 17, 251, 10007, 65521, 100003];
 
-fn is_modulus(p: u32) -> bool
-    ensures { result ≡ listed p moduli }
-{
-    for m in &MODULI {
-        if *m == p {
-            return true;
-        }
-    }
-    false
-}
-
 impl Prime {
     // The field of modulus p, refused exactly where p is none of the moduli.
     pub fn new(p: u32) -> Result<Prime, Refusal>
         ensures { MatchResult result (λ f. (listed p moduli ≡ true) × (prime_field_meaning f ≡ prime_meaning p) × Lawful (prime_field_meaning f)) (λ e. (listed p moduli ≡ false) × (e ≡ Refusal.NotAModulus)) }
     {
-        if is_modulus(p) {
+        if MODULI.contains(&p) {
             Ok(Prime { p })
         } else {
             Err(Refusal::NotAModulus)

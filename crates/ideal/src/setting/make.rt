@@ -7,7 +7,7 @@ ghost use Rattle.ideal.specs.Results.{SettingMade};
 ghost use Rattle.ideal.specs.Degrees.{DegreeAsked};
 
 use super::Setting;
-use super::questions::{has_even_degree, is_monic};
+use crate::monic::is_monic;
 use field::{Field, Refusal};
 use poly::Poly;
 
@@ -19,10 +19,7 @@ fn monomial(c: u32, i: usize) -> Poly
 {
     let mut coeffs = [0u32; 26];
     coeffs[i] = c;
-    match Poly::from(&coeffs) {
-        Some(p) => p,
-        None => Poly::zero(),
-    }
+    Poly::try_from(&coeffs[..]).unwrap()
 }
 
 // d, filled from the top: with the terms above x^i in place, the coefficient of x^(m+i) in D − d·d is twice the one wanted.
@@ -32,8 +29,7 @@ fn root<F: Field>(f: &F, radicand: &Poly, half: usize) -> Poly
 {
     let half_of_one = Poly::constant(f.add(1, 1)).top_inverse(f);
     let mut d = monomial(1, half);
-    for k in 0..half {
-        let i = half - 1 - k;
+    for i in (0..half).rev() {
         let rest = radicand.sub(f, &d.mul(f, &d));
         let c = f.mul(rest.coeff(half + i), half_of_one);
         d = d.add(f, &monomial(c, i));
@@ -48,7 +44,8 @@ impl Setting {
         ensures made { SettingMade (F.meaning f.now) radicand.now result }
         ensures degree { DegreeAsked radicand.now result }
     {
-        if !has_even_degree(radicand) {
+        let len = radicand.len();
+        if len % 2 == 0 || !(5..=51).contains(&len) {
             return Err(Refusal::WrongDegree);
         }
         if !is_monic(radicand) {
@@ -58,7 +55,7 @@ impl Setting {
         if common.len() != 1 {
             return Err(Refusal::CommonFactor);
         }
-        let half = radicand.len() / 2;
+        let half = len / 2;
         let root = root(f, radicand, half);
         Ok(Setting {
             radicand: *radicand,

@@ -3,14 +3,14 @@ ghost use Rattle.place.specs.Results.{GiantMade, Gap};
 
 use super::GiantStep;
 use field::Field;
-use ideal::{Ideal, Setting};
+use ideal::{Curve, Ideal};
 
 impl GiantStep {
-    pub fn new<F: Field>(f: &F, setting: &Setting, a: &Ideal, b: &Ideal) -> GiantStep
-        ensures { GiantMade (F.meaning f.now) setting.now a.now b.now result }
+    pub fn new<F: Field>(curve: &Curve<F>, a: &Ideal, b: &Ideal) -> GiantStep
+        ensures { GiantMade (F.meaning curve.now.field) curve.now.setting a.now b.now result }
     {
-        let (whole, divisor) = a.product(f, setting, b);
-        let (ideal, saved) = whole.reduce(f, setting);
+        let (whole, divisor) = a.product(curve, b);
+        let (ideal, saved) = whole.reduce(curve);
         GiantStep {
             ideal,
             divisor,

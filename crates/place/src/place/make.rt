@@ -1,7 +1,6 @@
 // Places from their parts.
-ghost use Rattle.std.specs.Prelude.{◌≡◌, ◌<◌};
-ghost use Rattle.ideal.specs.Results.{One};
-ghost use Rattle.place.specs.Results.{step_length, Origin, Start, NoTimes, PlaceFits, Fitted, PlaceMade};
+ghost use Rattle.std.specs.Prelude.{◌≡◌};
+ghost use Rattle.place.specs.Results.{step_length, Origin, Start, NoTimes, Fitted, PlaceMade};
 
 use super::Place;
 use field::Refusal;
@@ -16,34 +15,15 @@ pub(crate) fn step_length(setting: &Setting, ideal: &Ideal) -> usize
 }
 
 impl Place {
-    // Place 0 from its parts.
-    fn first(ideal: Ideal, offset: usize) -> Place
-        requires { (One ideal) × (offset ≡ 0) }
-        ensures is { Origin result }
-        ensures line { Start result }
-        ensures times { NoTimes result }
-    {
-        Place { ideal, offset }
-    }
-
     // Place 0: the ideal (1) with the offset 0. It is 0 times every place.
     pub fn origin() -> Place
         ensures is { Origin result }
         ensures line { Start result }
         ensures times { NoTimes result }
     {
-        Place::first(Ideal::one(), 0)
-    }
-
-    // The place of a reduced ideal and an offset that it has room for.
-    fn fitting(setting: &Setting, ideal: &Ideal, offset: usize) -> Place
-        requires { offset < step_length setting.now ideal.now }
-        ensures fitted { (offset < step_length setting.now ideal.now) × (result.ideal ≡ ideal.now) × (result.offset ≡ offset) }
-        ensures lawful { PlaceFits setting.now ideal.now offset result }
-    {
         Place {
-            ideal: *ideal,
-            offset,
+            ideal: Ideal::one(),
+            offset: 0,
         }
     }
 
@@ -55,7 +35,10 @@ impl Place {
         if offset >= step_length(setting, ideal) {
             return Err(Refusal::OffsetTooLarge);
         }
-        Ok(Place::fitting(setting, ideal, offset))
+        Ok(Place {
+            ideal: *ideal,
+            offset,
+        })
     }
 
     pub fn ideal(&self) -> &Ideal

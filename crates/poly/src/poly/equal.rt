@@ -8,6 +8,7 @@ ghost use Rattle.poly.specs.Rules.{Same};
 
 use super::Poly;
 
+// Written by hand, since a derived comparison would not say `same`.
 impl PartialEq for Poly {
     ghost eq = { on (λ p. p.raw.coeffs) (pointwise nat_eq) };
 
@@ -18,22 +19,10 @@ impl PartialEq for Poly {
         ensures decides { Decides result (self.now.raw.coeffs ≡ other.now.raw.coeffs) }
         ensures same { Same self.now other.now result }
     {
-        if self.raw.len != other.raw.len {
-            return false;
-        }
-        for i in 0..self.raw.len {
-            if self.raw.coeffs[i] != other.raw.coeffs[i] {
-                return false;
-            }
-        }
-        true
+        self.codes() == other.codes()
     }
 }
 
-impl Poly {
-    pub fn same(&self, other: &Poly) -> bool
-        ensures { Same self.now other.now result }
-    {
-        *self == *other
-    }
+impl Eq for Poly {
+    ghost laws = { Prim.search (comparing, rules) };
 }

@@ -1,5 +1,5 @@
 // Products, by rows: for each coefficient c of the one factor, at place i, the row c x^i b is added to the result in place.
-ghost use Rattle.std.specs.Prelude.{◌+◌, ◌≤◌};
+ghost use Rattle.std.specs.Prelude.{◌+◌, ◌≤◌, length};
 ghost use Rattle.poly.specs.Rows.{Row, Added};
 ghost use Rattle.poly.specs.Rules.{LowProduct, Product, LowLess, Less};
 
@@ -7,13 +7,15 @@ use super::Poly;
 use super::make::normal;
 use field::Field;
 
-// Adds c x^i b to `out`, for the n lowest coefficients of b.
-pub(super) fn add_row<F: Field>(f: &F, out: &mut [u32; 128], i: usize, c: u32, b: &Poly, n: usize)
-    requires { i + n ≤ 128 }
-    ensures { Row (F.meaning f.now) out.old i c b.now n out.new }
+// Adds c x^i times the row's coefficients to `out`.
+pub(super) fn add_row<F: Field>(f: &F, out: &mut [u32; 128], i: usize, c: u32, row: &[u32])
+    requires { i + length row.now ≤ 128 }
+    ensures { Row (F.meaning f.now) out.old i c row.now out.new }
 {
-    for k in 0..n {
-        out[i + k] = f.add(out[i + k], f.mul(c, b.raw.coeffs[k]));
+    // By index: of what is written through a zip with `iter_mut` a proof knows nothing afterwards, and with its `enumerate` the
+    // row would be read by index instead.
+    for (k, b) in row.iter().enumerate() {
+        out[i + k] = f.add(out[i + k], f.mul(c, *b));
     }
 }
 
@@ -21,32 +23,10 @@ pub(super) fn add_row<F: Field>(f: &F, out: &mut [u32; 128], i: usize, c: u32, b
 fn add_product<F: Field>(f: &F, out: &mut [u32; 128], a: &Poly, b: &Poly)
     ensures { Added (F.meaning f.now) out.old a.now b.now out.new }
 {
-    for i in 0..a.raw.len {
-        let n = b.raw.len.min(128 - i);
-        add_row(f, out, i, a.raw.coeffs[i], b, n);
+    for (i, c) in a.codes().iter().enumerate() {
+        let n = b.len().min(128 - i);
+        add_row(f, out, i, *c, &b.codes()[..n]);
     }
-}
-
-fn product<F: Field>(f: &F, a: &Poly, b: &Poly) -> Poly
-    ensures low { LowProduct (F.meaning f.now) a.now b.now result }
-    ensures exact { Product (F.meaning f.now) a.now b.now result }
-{
-    let mut out = [0u32; 128];
-    add_product(f, &mut out, a, b);
-    let end = (a.raw.len + b.raw.len).min(128);
-    normal(out, end)
-}
-
-// a - p b, which is a + (-p) b.
-fn less_product<F: Field>(f: &F, a: &Poly, p: &Poly, b: &Poly) -> Poly
-    ensures low { LowLess (F.meaning f.now) a.now p.now b.now result }
-    ensures exact { Less (F.meaning f.now) a.now p.now b.now result }
-{
-    let opposite = p.neg(f);
-    let mut out = a.raw.coeffs;
-    add_product(f, &mut out, &opposite, b);
-    let end = (opposite.raw.len + b.raw.len).min(128).max(a.raw.len);
-    normal(out, end)
 }
 
 impl Poly {
@@ -55,14 +35,22 @@ impl Poly {
         ensures low { LowProduct (F.meaning f.now) self.now other.now result }
         ensures exact { Product (F.meaning f.now) self.now other.now result }
     {
-        product(f, self, other)
+        let mut out = [0u32; 128];
+        add_product(f, &mut out, self, other);
+        let end = (self.raw.len + other.raw.len).min(128);
+        normal(out, end)
     }
 
-    // What is left of this polynomial when the product of p and b is taken away, with the same bound on the product.
+    // What is left of this polynomial when the product of p and b is taken away, with the same bound on the product. It is
+    // found by adding the product of -p and b.
     pub fn minus_product<F: Field>(&self, f: &F, p: &Poly, b: &Poly) -> Poly
         ensures low { LowLess (F.meaning f.now) self.now p.now b.now result }
         ensures exact { Less (F.meaning f.now) self.now p.now b.now result }
     {
-        less_product(f, self, p, b)
+        let opposite = p.neg(f);
+        let mut out = self.raw.coeffs;
+        add_product(f, &mut out, &opposite, b);
+        let end = (opposite.raw.len + b.raw.len).min(128).max(self.raw.len);
+        normal(out, end)
     }
 }

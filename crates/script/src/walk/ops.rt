@@ -7,7 +7,7 @@ use crate::plan::Plan;
 use crate::show::Shown;
 use crate::walk::{Stop, Walk};
 use field::Field;
-use ideal::{Ideal, Setting};
+use ideal::{Curve, Ideal};
 use std::fmt;
 
 impl Stop {
@@ -24,11 +24,11 @@ impl Stop {
     }
 
     // One step further. The sums stop at the end of their types, which is too far for any walk.
-    pub(crate) fn next<F: Field>(&self, f: &F, setting: &Setting) -> Stop
+    pub(crate) fn next<F: Field>(&self, curve: &Curve<F>) -> Stop
         ensures index { result.index ≡ min (self.now.index + 1) (2 ^ 32 - 1) }
-        ensures line { self.now.index + 1 < 2 ^ 32 → OnLine (F.meaning f.now) setting.now self.now → OnLine (F.meaning f.now) setting.now result }
+        ensures line { self.now.index + 1 < 2 ^ 32 → OnLine (F.meaning curve.now.field) curve.now.setting self.now → OnLine (F.meaning curve.now.field) curve.now.setting result }
     {
-        let (ideal, far) = self.ideal.step(f, setting);
+        let (ideal, far) = self.ideal.step(curve);
         let length = far.saturating_sub(self.ideal.q().len());
         Stop {
             index: self.index.saturating_add(1),
@@ -68,12 +68,9 @@ impl Iterator for Walk<'_> {
     ghost remaining = { λ w. at_most w.left };
 
     fn next(&mut self) -> Option<Stop> {
-        if self.left == 0 {
-            return None;
-        }
-        self.left -= 1;
+        self.left = self.left.checked_sub(1)?;
         let stop = self.stop;
-        self.stop = stop.next(&self.plan.field, &self.plan.setting);
+        self.stop = stop.next(&self.plan.curve);
         Some(stop)
     }
 }

@@ -23,20 +23,13 @@ impl Tower {
     pub fn extend(self, n: u32) -> Result<Tower, Refusal>
         ensures { MatchResult result (λ t. Extends (tower_meaning self) n × (tower_meaning t ≡ extended (tower_meaning self) n) × (Lawful (tower_meaning self) → Lawful (tower_meaning t))) (λ e. Refuses (tower_meaning self) n e) }
     {
-        match self.pile {
-            Pile::Base(f) => Ok(Tower {
-                pile: Pile::One(Extension::new(f, n)?),
-            }),
-            Pile::One(f) => Ok(Tower {
-                pile: Pile::Two(Extension::new(f, n)?),
-            }),
-            Pile::Two(f) => Ok(Tower {
-                pile: Pile::Three(Extension::new(f, n)?),
-            }),
-            Pile::Three(f) => Ok(Tower {
-                pile: Pile::Four(Extension::new(f, n)?),
-            }),
-            Pile::Four(_) => Err(Refusal::TooLarge),
-        }
+        let pile = match self.pile {
+            Pile::Base(f) => Pile::One(Extension::new(f, n)?),
+            Pile::One(f) => Pile::Two(Extension::new(f, n)?),
+            Pile::Two(f) => Pile::Three(Extension::new(f, n)?),
+            Pile::Three(f) => Pile::Four(Extension::new(f, n)?),
+            Pile::Four(_) => return Err(Refusal::TooLarge),
+        };
+        Ok(Tower { pile })
     }
 }

@@ -5,66 +5,47 @@ use Rattle.end.specs.Results.{written_to}
 use Rattle.dialogue.specs.Scripts.{call_of}
 use Rattle.dialogue.proofs.Steps.{respelled}
 use Rattle.dialogue.proofs.calls.perform.Goals as goal
+use Rattle.dialogue.proofs.calls.perform.Goals.{in-Load, in-Open, in-Tell+in_ok-out-in-Tell, in-Take, in-Key+in_ok-out-in-Key, in-Close}
 
-pub returns-in-Load : goal.returns-in-Load
-returns-in-Load g c = record {
-  event = (
-    refl,
-    respelled (g.F.Field.meaning c.args.end.now.field) c.args.end.now c.load.new.self _ _ _ _ _ _ (ap call_of c.in-Load.is ∙ ap load (sym c.deref.ensures.value)) refl c.new.ensures.items
-        c.load.ensures.follows,
-  );
-  over = c.load.ensures.rest.field;
-}
-
-pub returns-in-Take : goal.returns-in-Take
-returns-in-Take g c = record {
-  event = (
-    refl,
-    respelled (g.F.Field.meaning c.args.end.now.field) c.args.end.now c.take.new.self _ _ _ _ _ _ (ap call_of c.in-Take.is ∙ ap take (sym c.deref-in-Take.ensures.value)) refl c.new-in-Take.ensures.items
-        c.take.ensures.follows,
-  );
-  over = c.take.ensures.rest.field;
-}
-
-pub returns-in-Open : goal.returns-in-Open
-returns-in-Open g c =
-    let d = c.deref_mut.ensures in
-    let whole : length c.open-answer.new.secret ≡ c.in-Open.secret.len = omega arith in
-    record {
-      event = (
+pub returns-clause-event : goal.returns-clause-event
+returns-clause-event g c =
+    elim c.match-order.branch [
+      | in-Load w ↦ rw (w.answer-is, w.end-is) (
         refl,
-        respelled (g.F.Field.meaning c.args.end.now.field) c.args.end.now c.open-answer.new.self _ _ _ _ _ _ (ap call_of c.in-Open.is ∙ ap «open» (sym d.value)) refl
-            (with_items_is c.in-Open.secret c.open-answer.new.secret whole) c.open-answer.ensures.follows,
-      );
-      over = c.open-answer.ensures.rest.field;
-    }
-
-pub returns-in_ok-out-in-Tell : goal.returns-in_ok-out-in-Tell
-returns-in_ok-out-in-Tell g c =
-    let made = c.in_ok-out-in-Tell.ensures.len in
-    let whole : length c.tell.new.out ≡ c.in_ok-out-in-Tell.out.len = omega arith in
-    let room : c.in-Tell.room ≡ length c.deref_mut-in-Tell.result.now = omega arith in
-    record {
-      event = (
-        c.wrote.ensures.side,
-        respelled (g.F.Field.meaning c.args.end.now.field) c.args.end.now c.args.end.now _ _ _ _ _ _ (ap call_of c.in-Tell.is ∙ ap tell room) c.wrote.ensures.answer
-            (c.wrote.ensures.written ∙ ap (λ (z : List ℕ). written_to z c.tell.result) (with_items_is c.in_ok-out-in-Tell.out c.tell.new.out whole))
-            c.tell.ensures.follows,
-      );
-      over = refl;
-    }
-
-pub returns-in_ok-out-in-Key : goal.returns-in_ok-out-in-Key
-returns-in_ok-out-in-Key g c =
-    let made = c.in_ok-out-in-Key.ensures.len in
-    let whole : length c.key.new.out ≡ c.in_ok-out-in-Key.out.len = omega arith in
-    let room : c.in-Key.room ≡ length c.deref_mut-in-Key.result.now = omega arith in
-    record {
-      event = (
-        c.wrote-in-Key.ensures.side,
-        respelled (g.F.Field.meaning c.args.end.now.field) c.args.end.now c.args.end.now _ _ _ _ _ _ (ap call_of c.in-Key.is ∙ ap key room) c.wrote-in-Key.ensures.answer
-            (c.wrote-in-Key.ensures.written ∙ ap (λ (z : List ℕ). written_to z c.key.result) (with_items_is c.in_ok-out-in-Key.out c.key.new.out whole))
-            c.key.ensures.follows,
-      );
-      over = refl;
-    }
+        respelled (g.F.Field.meaning c.args.end.now.field) c.args.end.now w.load.new.self _ _ _ _ _ _ (ap call_of w.in-Load.is ∙ ap load (sym w.deref.ensures.value)) refl w.new.ensures.items
+            w.load.ensures.follows,
+      )
+      | in-Open w ↦ rw (w.answer-is, w.end-is) (
+        refl,
+        (let whole : length w.open.new.secret ≡ w.in-Open.secret.len = (let d = w.deref_mut.ensures in omega arith) in
+            respelled (g.F.Field.meaning c.args.end.now.field) c.args.end.now w.open.new.self _ _ _ _ _ _ (ap call_of w.in-Open.is ∙ ap «open» (sym w.deref_mut.ensures.value)) refl
+            (with_items_is w.in-Open.secret w.open.new.secret whole) w.open.ensures.follows),
+      )
+      | in-Tell+in_ok-out-in-Tell w ↦ rw (w.answer-is, w.end-is) (
+        refl,
+        (let made = w.in_ok-out-in-Tell.ensures.len in
+            let whole : length w.tell.new.out ≡ w.in_ok-out-in-Tell.out.len = omega arith in
+            let room : w.in-Tell.room ≡ length w.deref_mut-in-Tell.result.now = omega arith in
+            respelled (g.F.Field.meaning c.args.end.now.field) c.args.end.now c.args.end.now _ _ _ _ _ _ (ap call_of w.in-Tell.is ∙ ap tell room) w.cut.ensures.answer
+            (w.cut.ensures.written ∙ ap (λ (z : List ℕ). written_to z w.tell.result) (with_items_is w.in_ok-out-in-Tell.out w.tell.new.out whole))
+            w.tell.ensures.follows),
+      )
+      | in-Take w ↦ rw (w.answer-is, w.end-is) (
+        refl,
+        respelled (g.F.Field.meaning c.args.end.now.field) c.args.end.now w.take.new.self _ _ _ _ _ _ (ap call_of w.in-Take.is ∙ ap take (sym w.deref-in-Take.ensures.value)) refl w.new-in-Take.ensures.items
+            w.take.ensures.follows,
+      )
+      | in-Key+in_ok-out-in-Key w ↦ rw (w.answer-is, w.end-is) (
+        refl,
+        (let made = w.in_ok-out-in-Key.ensures.len in
+            let whole : length w.key.new.out ≡ w.in_ok-out-in-Key.out.len = omega arith in
+            let room : w.in-Key.room ≡ length w.deref_mut-in-Key.result.now = omega arith in
+            respelled (g.F.Field.meaning c.args.end.now.field) c.args.end.now c.args.end.now _ _ _ _ _ _ (ap call_of w.in-Key.is ∙ ap key room) w.cut-in-Key.ensures.answer
+            (w.cut-in-Key.ensures.written ∙ ap (λ (z : List ℕ). written_to z w.key.result) (with_items_is w.in_ok-out-in-Key.out w.key.new.out whole))
+            w.key.ensures.follows),
+      )
+      | in-Close w ↦ rw (w.answer-is, w.end-is) (
+        refl,
+        respelled (g.F.Field.meaning c.args.end.now.field) c.args.end.now w.close.new.self _ _ _ _ _ _ (ap call_of w.in-Close.is) refl w.new-in-Close.ensures.items w.close.ensures.follows,
+      )
+    ]

@@ -1,5 +1,5 @@
 use Rattle.script.specs.Plans.{Sound}
 use Rattle.script.proofs.plan.read.Given as goal
 
-abbrev pub invariant-loop-line : goal.invariant-loop-line
-invariant-loop-line l = Sound l.draft
+abbrev pub invariant-loop-k : goal.invariant-loop-k
+invariant-loop-k l = Sound l.draft

@@ -1,15 +1,11 @@
-use Rattle.std.proofs.Common.{Err, refl, ap}
 use Rattle.std.proofs.lemmas.Result.{err_from_is_err_and}
-use Rattle.end.proofs.Loading.{in_use}
+use Rattle.end.proofs.Loading.{load_refused, loaded}
 use Rattle.end.proofs.end.End.load.Goals as goal
 
-pub returns-in_err-allowed : goal.returns-in_err-allowed
-returns-in_err-allowed g c =
-    let p = err_from_is_err_and c.from_residual.result c.from_residual.ensures.1 in
-    let why = c.in_err-allowed.ensures in
-    rw (p.1, p.2) (record {
-      follows = in_use c.args.self.now c.args.bytes.now c.in_err-allowed.field-0.0 why.1 why.0;
-      rest = record { field = refl; ideal = refl; distance = refl; key = refl };
-      unchanged = refl;
-      asked = λ away. ap Err why.1;
-    })
+pub returns-in_err-setting-clause-follows : goal.returns-in_err-setting-clause-follows
+returns-in_err-setting-clause-follows g c =
+    let p = err_from_is_err_and c.from_residual-in_err-setting.result c.from_residual-in_err-setting.ensures.1 in
+    rw (p.1, p.2) (load_refused c.args.self.now c.args.bytes.now c.in_err-setting.field-0.0 c.in_ok-may_load.ensures c.in_err-setting.ensures)
+
+pub returns-clause-follows : goal.returns-clause-follows
+returns-clause-follows g c = loaded c.args.self.now c.args.bytes.now c.in_ok-setting.setting c.in_ok-may_load.ensures c.in_ok-setting.ensures

@@ -4,6 +4,6 @@ use Rattle.ideal.proofs.ideal.Ideal.cleared.Goals as goal
 
 pub returns : goal.returns
 returns c = record {
-  zero = c.nothing.ensures.places;
-  none = λ M L A x h. x.alive (sym h.Q_is.is ∙ (zero_is L c.nothing.ensures.zero).is);
+  zero = λ k. (c.zero-zero.ensures.places k, c.zero-zero.ensures.places k);
+  none = λ M L A x h. x.alive (sym h.Q_is.is ∙ (zero_is L c.zero-zero.ensures.is).is);
 }

@@ -1,5 +1,6 @@
+use Rattle.std.proofs.Common.{rules}
 use Rattle.ideal.proofs.Units.{one_tested}
 use Rattle.ideal.proofs.ideal.Ideal.is_one.Goals as goal
 
-pub returns : goal.returns
-returns c = record { short = c.is_constant.ensures; is = one_tested c.is_constant.ensures }
+pub returns-clause-is : goal.returns-clause-is
+returns-clause-is c = one_tested (search rules)

@@ -1,5 +1,5 @@
 use Rattle.std.proofs.Common.{refl, inl, inr, arith}
-use Rattle.place.proofs.Making.{over}
+use Rattle.place.proofs.Making.{fits, over}
 use Rattle.place.proofs.place.Place.new.Goals as goal
 
 pub returns-then-offset-step_length : goal.returns-then-offset-step_length
@@ -10,6 +10,8 @@ returns-then-offset-step_length c = record {
 
 pub returns : goal.returns
 returns c = record {
-  fitted = c.fitting.ensures.fitted;
-  made = λ M L A x hs hx t. let (lawful, is) = c.fitting.ensures.lawful M L A x hs hx t in (inl (lawful.fits, refl), lawful, is);
+  fitted = (omega arith, refl, refl);
+  made = λ M L A x hs hx t.
+      let room = fits L A hs hx c.args.offset (omega arith) in
+      (inl (room, refl), record { standard = t; fits = room }, record { ideal_is = hx; off_is = refl });
 }

@@ -1,3 +1,4 @@
+use Rattle.std.proofs.Common.{rules}
 use Rattle.place.specs.Results.{Summed}
 use Rattle.place.proofs.Summing.{summed, summed_at}
 use Rattle.place.proofs.place.add.sum.Goals as goal
@@ -5,5 +6,5 @@ use Rattle.place.proofs.place.add.sum.Goals as goal
 pub returns : goal.returns
 returns g c = record { sums = sums; line = summed_at sums }
   where
-    sums : Summed (g.F.Field.meaning c.args.f.now) c.args.setting.now c.args.a.now c.args.b.now c.args.more c.walk.result
-    sums = summed c.new-giant.ensures c.offsets.ensures c.gap-offset.ensures c.walk.ensures
+    sums : Summed (g.F.Field.meaning c.args.curve.now.field) c.args.curve.now.setting c.args.a.now c.args.b.now c.args.more c.walk.result
+    sums = summed c.new-giant.ensures (search rules) c.gap-offset.ensures c.walk.ensures

@@ -1,24 +1,25 @@
-use Rattle.std.proofs.Common.{refl, ap, inl, arith}
-use Rattle.tower.specs.Piles.{fewest}
-use Rattle.tower.proofs.Sizes.{at_pile, squared, fifth_too_large}
+use Rattle.std.proofs.Common.{sym}
+use Rattle.tower.proofs.Sizes.{at_pile, squared, moved}
 use Rattle.tower.proofs.tower.Tower.extend.Goals as goal
+use Rattle.tower.proofs.tower.Tower.extend.Goals.{in-Base+in_ok-new-in-Base, in-One+in_ok-new-in-One, in-Two+in_ok-new-in-Two, in-Three+in_ok-new-in-Three}
 
 pub invariant_of-result : goal.invariant_of-result
 invariant_of-result c =
-    record { large = squared 3 _ _ _ (at_pile _ _ c.in-Base.is c.args.self.large) c.in_ok-new-in-Base.ensures.1 }
+    let h = c.args.self.large in
+    record {
+      large = elim c.match-self.branch [
+        | in-Base+in_ok-new-in-Base w ↦ at_pile _ _ (sym w.pile-is) (squared 3 _ _ _ (at_pile _ _ w.in-Base.is h) w.in_ok-new-in-Base.ensures.1)
+        | in-One+in_ok-new-in-One w ↦ at_pile _ _ (sym w.pile-is) (squared 9 _ _ _ (at_pile _ _ w.in-One.is h) w.in_ok-new-in-One.ensures.1)
+        | in-Two+in_ok-new-in-Two w ↦ at_pile _ _ (sym w.pile-is) (squared 81 _ _ _ (at_pile _ _ w.in-Two.is h) w.in_ok-new-in-Two.ensures.1)
+        | in-Three+in_ok-new-in-Three w ↦ at_pile _ _ (sym w.pile-is) (squared 6561 _ _ _ (at_pile _ _ w.in-Three.is h) w.in_ok-new-in-Three.ensures.1)
+      ];
+    }
 
-pub invariant_of-result-in-One : goal.invariant_of-result-in-One
-invariant_of-result-in-One c =
-    record { large = squared 9 _ _ _ (at_pile _ _ c.in-One.is c.args.self.large) c.in_ok-new-in-One.ensures.1 }
-
-pub invariant_of-result-in-Two : goal.invariant_of-result-in-Two
-invariant_of-result-in-Two c =
-    record { large = squared 81 _ _ _ (at_pile _ _ c.in-Two.is c.args.self.large) c.in_ok-new-in-Two.ensures.1 }
-
-pub invariant_of-result-in-Three : goal.invariant_of-result-in-Three
-invariant_of-result-in-Three c =
-    record { large = squared 6561 _ _ _ (at_pile _ _ c.in-Three.is c.args.self.large) c.in_ok-new-in-Three.ensures.1 }
-
-pub returns-in-Four : goal.returns-in-Four
-returns-in-Four c =
-    inl (refl, fifth_too_large _ (omega (arith, ap fewest c.in-Four.is)) c.args.self.large)
+pub returns : goal.returns
+returns c =
+    elim c.match-self.branch [
+      | in-Base+in_ok-new-in-Base w ↦ moved _ _ _ _ w.in-Base.is w.pile-is w.in_ok-new-in-Base.ensures
+      | in-One+in_ok-new-in-One w ↦ moved _ _ _ _ w.in-One.is w.pile-is w.in_ok-new-in-One.ensures
+      | in-Two+in_ok-new-in-Two w ↦ moved _ _ _ _ w.in-Two.is w.pile-is w.in_ok-new-in-Two.ensures
+      | in-Three+in_ok-new-in-Three w ↦ moved _ _ _ _ w.in-Three.is w.pile-is w.in_ok-new-in-Three.ensures
+    ]
