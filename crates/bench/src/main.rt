@@ -9,7 +9,7 @@ use place::Place;
 use poly::{Poly, TooLong};
 use std::io;
 
-// D = x^50 + x + 1
+// D = x^50 + x + 1. A program does not stand on a crate of tests, which has a function for it.
 fn radicand() -> Result<Poly, TooLong> {
     let mut coeffs = [0u32; 51];
     coeffs[0] = 1;

@@ -5,27 +5,17 @@ use field::{Field, Refusal};
 use std::alloc::{AllocError, Global};
 use std::test::Fail;
 
-pub fn at_left(order: Order) -> Line {
-    Line {
-        side: Side::Left,
-        order,
-    }
-}
-
-pub fn at_right(order: Order) -> Line {
-    Line {
-        side: Side::Right,
-        order,
-    }
+pub fn at(side: Side, order: Order) -> Line {
+    Line { side, order }
 }
 
 // Both ends open with their secrets and tell their offers into buffers of this length.
 fn opening(left: &[u8], right: &[u8], room: usize, heap: Global) -> Result<Vec<Line>, AllocError> {
     Ok(vec![in heap;
-        at_left(Order::Open(Vec::from_slice(heap, left)?)),
-        at_right(Order::Open(Vec::from_slice(heap, right)?)),
-        at_left(Order::Tell(room)),
-        at_right(Order::Tell(room)),
+        at(Side::Left, Order::Open(Vec::from_slice(heap, left)?)),
+        at(Side::Right, Order::Open(Vec::from_slice(heap, right)?)),
+        at(Side::Left, Order::Tell(room)),
+        at(Side::Right, Order::Tell(room)),
     ]?)
 }
 
@@ -34,10 +24,10 @@ fn closing(told: &[Event], room: usize, heap: Global) -> Result<Vec<Line>, Fail>
     let left = written(told, 2).ok_or("nothing told at the left")?;
     let right = written(told, 3).ok_or("nothing told at the right")?;
     Ok(vec![in heap;
-        at_left(Order::Take(Vec::from_slice(heap, right)?)),
-        at_right(Order::Take(Vec::from_slice(heap, left)?)),
-        at_left(Order::Key(room)),
-        at_right(Order::Key(room)),
+        at(Side::Left, Order::Take(Vec::from_slice(heap, right)?)),
+        at(Side::Right, Order::Take(Vec::from_slice(heap, left)?)),
+        at(Side::Left, Order::Key(room)),
+        at(Side::Right, Order::Key(room)),
     ]?)
 }
 

@@ -52,8 +52,7 @@ fn stops(rt: HostRuntime) -> Result<(), Fail> {
         let request = request_on(line.as_str()).ok_or("no request")?;
         let place = request.place(&plan.curve);
         assert_eq!(rt; place.offset(), 0);
-        assert!(rt; place.ideal().q() == stop.ideal.q());
-        assert!(rt; place.ideal().p() == stop.ideal.p());
+        assert!(rt; *place.ideal() == stop.ideal);
     }
     Ok(())
 }

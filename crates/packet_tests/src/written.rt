@@ -1,4 +1,4 @@
-// What is written, byte by byte, and read back.
+// What is written, byte by byte, and read back. The buffers are fixed and longer than the packets, since the writer is lent one.
 use crate::examples::{answer, wide_field};
 use crate::worked::{OFFER, SETTING};
 use field::{Extension, Prime, Refusal};
@@ -8,6 +8,7 @@ use std::array;
 use std::process::Abort;
 use std::test::Fail;
 
+// `try_from` of an array, which would ask for a slice of it at each call.
 fn poly(codes: &[u32]) -> Result<Poly, Fail> {
     Ok(Poly::try_from(codes)?)
 }

@@ -7,7 +7,8 @@ use place::{Place, lessen};
 use std::process::Abort;
 use std::test::Fail;
 
-// The curve of the first accepted setting of x^50 + i·x + 1.
+// The curve of the first accepted setting of x^50 + i·x + 1. The tests of exchanges look over another range; a search for both did not
+// prove what it finds.
 pub fn degree_50<F: Field>(field: &F) -> Result<Curve<&F>, Fail> {
     let setting = (1..20u32)
         .find_map(|i| with_term(field, 50, i))

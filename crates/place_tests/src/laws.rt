@@ -1,4 +1,5 @@
-// What holds of the places of a setting, as checks beside the walker.
+// What holds of the places of a setting, as checks beside the walker. `rt` is the handle that every assert takes; a struct of it and the
+// curve would be taken apart in each check.
 use crate::bytes::two;
 use crate::walker::{Walker, ring};
 use field::Field;

@@ -2,7 +2,7 @@
 use field::Field;
 use poly::{Poly, TooLong};
 
-// A linear congruential sequence.
+// A linear congruential sequence, in 64 bits: those of the tests of places and of exchanges have 32, and give bytes.
 #[derive(Drop)]
 pub struct Numbers(pub u64);
 

@@ -1,4 +1,5 @@
-// Identities that hold of all polynomials over a field, as checks.
+// Identities that hold of all polynomials over a field, as checks. `rt` is the handle that every assert takes; a struct of it and the field
+// would be taken apart in each check.
 use crate::generated::Numbers;
 use field::Field;
 use poly::Poly;

@@ -6,7 +6,7 @@ use field_tests::broken::Wild;
 use poly::{Poly, TooLong};
 use std::test::Fail;
 
-// The polynomial of a few coefficients, the lowest first.
+// The polynomial of a few coefficients, the lowest first: `try_from` of an array, which would ask for a slice of it at each call.
 fn of(cs: &[u32]) -> Result<Poly, TooLong> {
     Poly::try_from(cs)
 }

@@ -45,6 +45,6 @@ impl Codes {
         let lowest = &mut places[..codes.len()];
         lowest.copy_from_slice(codes);
         lowest.reverse();
-        Poly::try_from(&*lowest).unwrap_or(Poly::zero())
+        Poly::try_from(&*lowest).unwrap()
     }
 }

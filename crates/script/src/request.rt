@@ -35,7 +35,7 @@ impl Request {
     }
 }
 
-// A place as people read it.
+// A place as people read it. Its Q and P are written here and for a stop: a type for the pair alone would be no plainer.
 #[derive(Clone, Copy)]
 pub struct Placed<'a>(pub &'a Place);
 

@@ -24,7 +24,7 @@ impl<'a> Words<'a> {
         }
     }
 
-    // The next word, if there is one.
+    // The next word, if there is one. The iterator behind it is this type's own, and not handed out.
     pub fn word(&mut self) -> Option<&'a str>
         ensures { MatchOption result (HasNoWord (rest_of self.old) × (self.new ≡ self.old)) (λ w. NextWord (rest_of self.old) w.now (rest_of self.new)) }
     {

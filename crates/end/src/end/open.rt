@@ -11,7 +11,7 @@ use crate::modes::{Call, Mode};
 use field::{Field, Refusal};
 use place::{Place, lessen};
 
-// Whether a number has 1 to 32 bytes.
+// Whether a number has 1 to 32 bytes. Each call that asks gives the refusal itself, so that its questions stand in their order.
 pub(crate) fn is_number(bytes: &[u8]) -> bool
     ensures { Decides result (OneTo32 bytes.now) }
 {
