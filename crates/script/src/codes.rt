@@ -40,7 +40,7 @@ impl Codes {
         ensures { Spelled (code_list self.now) result }
     {
         let codes = self.list.as_slice();
-        // turned round in an array, as the list's own clone answers a Result, and this has no error to answer
+        // turned round in an array: of the list's own clone each element is known by itself, and the proof from there was not closed
         let mut places = [0u32; 128];
         let lowest = &mut places[..codes.len()];
         lowest.copy_from_slice(codes);
