@@ -42,6 +42,16 @@ module _ {C R : Type 0} (K : PolyRing C R) (S : Setting K) where
   pub place-~ : {t : ℕ} {p : Place K S} → PlaceAt K S t p → ◌~◌ K S (at K S (one K S) t) (site_of K S p)
   place-~ {t} {p} π = shift K S (one K S) p.ideal π.distance 0 0 0 t 0 p.off 0 (line-~ π.line) (omega (arith, π.split))
 
+  -- the ideal itself, at its own distance
+  pub place_floor : {t : ℕ} {p : Place K S} (π : PlaceAt K S t p) → PlaceAt K S π.distance (place K S p.ideal 0)
+  place_floor {t} {p} π = record {
+    index = π.index;
+    distance = π.distance;
+    line = π.line;
+    split = omega arith;
+    fits = omega (arith, π.fits);
+  }
+
   pub place_unique : {t : ℕ} {p q : Place K S} → PlaceAt K S t p → PlaceAt K S t q → p ≡ q
   place_unique {t} {p} {q} π ρ =
       lawful_unique K S p q (place_legal π) (place_legal ρ) (~-trans K S (~-sym K S (place-~ π)) (place-~ ρ))

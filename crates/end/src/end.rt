@@ -36,7 +36,7 @@ impl<F: Field> End<F> {
         let setting = self.mode.setting_for(call)?;
         Ok(Curve {
             field: &self.field,
-            setting,
+            setting: *setting,
         })
     }
 }

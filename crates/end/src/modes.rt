@@ -28,8 +28,8 @@ pub(crate) enum Call {
 
 impl Mode {
     // The first question of a call, which is about the mode alone: the setting that the call works with, or its refusal.
-    pub(crate) fn setting_for(self, call: Call) -> Result<Setting, Refusal>
-        ensures { MatchResult result (λ t. May self call × Holds self t) (λ e. ¬ (May self call) × (e ≡ untimely call)) }
+    pub(crate) fn setting_for(&self, call: Call) -> Result<&Setting, Refusal>
+        ensures { MatchResult result (λ t. May self.now call × Holds self.now t.now) (λ e. ¬ (May self.now call) × (e ≡ untimely call)) }
     {
         match (self, call) {
             (Mode::Ready(s), Call::Open | Call::Find | Call::Add)

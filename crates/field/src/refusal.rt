@@ -1,12 +1,14 @@
 // Why a field, a packet, a setting or a call is refused. The rules put their questions in a fixed order, and the first one
 // with the answer no decides: each question has a variant here, with the number that goes out to callers.
-ghost use Rattle.std.specs.Prelude.{◌≡◌};
+ghost use Rattle.std.specs.Prelude.{◌≡◌, Decides, ◌==◌};
 ghost use Rattle.field.specs.Refusals.{refusal_number};
+ghost use Rattle.std.specs.Cmp.Rules.{comparing};
+ghost use Rattle.std.proofs.Common.{rules};
 
 use std::error::Error;
 use std::fmt;
 
-#[derive(Clone, Copy, PartialEq, Eq, Debug)]
+#[derive(Clone, Copy, Eq, Debug)]
 pub enum Refusal {
     // making a field
     NotAModulus = 1,
@@ -93,6 +95,21 @@ impl Refusal {
             Refusal::TrivialKey => "the key would be (1)",
             Refusal::OffsetTooLarge => "the place's offset is not below m - deg Q",
         }
+    }
+}
+
+// No two refusals have one number. Written by hand, since a derived comparison would say nothing of the numbers.
+impl PartialEq for Refusal {
+    ghost eq = { λ x y. refusal_number x == refusal_number y };
+
+    ghost laws = { Prim.search (comparing, rules) };
+
+    fn eq(&self, other: &Refusal) -> bool
+        ensures value { result ≡ (refusal_number self.now == refusal_number other.now) }
+        ensures decides { Decides result (refusal_number self.now ≡ refusal_number other.now) }
+        ensures same { Decides result (self.now ≡ other.now) }
+    {
+        self.number() == other.number()
     }
 }
 

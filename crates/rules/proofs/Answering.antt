@@ -1,5 +1,5 @@
 -- Questions have one answer.
-use Rattle.std.proofs.Common.{rules, ◌≡◌, ℕ, List, [], ◌∷◌, ◌++◌, sym, refl, ◌∙◌, inl, inr}
+use Rattle.std.proofs.Common.{rules, ◌≡◌, ℕ, List, [], ◌∷◌, ◌++◌, sym, refl, ap, ◌∙◌, inl, inr}
 use Rattle.rules.specs.Questions.{Question, Answer, accepted, refused, Answers, Answered, Hold}
 
 pub accepted≢refused : (a : Answer) (n : ℕ) → a ≡ accepted → a ≡ refused n → ⊥
@@ -57,3 +57,29 @@ pub refused_then : (qs rs : List Question) (n : ℕ) → Answers qs (refused n) 
 refused_then [] rs n h = absurd (accepted≢refused (refused n) n h refl)
 refused_then (q ∷ qs) rs n (inl h) = inl (h.0, refused_then qs rs n h.1)
 refused_then (q ∷ qs) rs n (inr h) = inr h
+
+-- refused n: the question of n is the first whose answer is no
+pub record First (qs : List Question) (n : ℕ) : Type 1 where
+  pub before : List Question
+  pub it : Question
+  pub behind : List Question
+  pub splits : qs ≡ before ++ (it ∷ behind)
+  pub held : Hold before
+  pub fails : ¬ it.asks
+  pub numbered : it.number ≡ n
+
+pub answers_first : (qs : List Question) (n : ℕ) → Answers qs (refused n) → First qs n
+answers_first [] n p = absurd (accepted≢refused accepted n refl (sym p))
+answers_first (q ∷ qs) n (inl p) =
+    let f = answers_first qs n p.1 in
+    record {
+      before = q ∷ f.before;
+      it = f.it;
+      behind = f.behind;
+      splits = ap (λ (r : List Question). q ∷ r) f.splits;
+      held = (p.0, f.held);
+      fails = f.fails;
+      numbered = f.numbered;
+    }
+answers_first (q ∷ qs) n (inr p) =
+    record { before = []; it = q; behind = qs; splits = refl; held = tt; fails = p.0; numbered = cc p.1 }

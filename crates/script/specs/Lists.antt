@@ -1,12 +1,12 @@
 -- The codes of a polynomial as an input gives them.
-use Rattle.std.specs.Prelude.{◌≡◌, ℕ, ◌-◌, ◌<◌, ◌≤◌, List, length, slice_index}
+use Rattle.std.specs.Prelude.{◌≡◌, ℕ, ◌-◌, ◌<◌, ◌≤◌, List, length, take, slice_index}
 use Rattle.poly.specs.Values.{at}
 use Rattle.poly.specs.declared.poly.Poly.{Poly}
 use Rattle.script.specs.declared.codes.Codes.{Codes}
 
 -- the codes that were read, the one of the highest degree first
 abbrev pub code_list : Codes → List ℕ
-code_list c = c.list.items
+code_list c = take c.len c.list
 
 -- p has these codes, the one of the highest degree first
 abbrev pub Spelled : List ℕ → Poly → Type 0

@@ -20,7 +20,7 @@ pub struct Plan {
 }
 
 // What stands on a line.
-#[derive(Drop)]
+#[derive(Clone, Copy)]
 enum Item {
     Prime(u32),
     Extend(u32),
@@ -120,8 +120,9 @@ pub fn read(text: &str) -> Result<Plan, Fault>
 
 // The question about places on a line, if there is one.
 pub fn request_on(line: &str) -> Option<Request> {
-    match item_on(line) {
-        Ok(Some(Item::Ask(request))) => Some(request),
+    let item = item_on(line).ok().flatten()?;
+    match item {
+        Item::Ask(request) => Some(request),
         _ => None,
     }
 }

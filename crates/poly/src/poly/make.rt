@@ -1,9 +1,19 @@
 // Polynomials from their coefficients, and what is read off one.
-ghost use Rattle.std.specs.Prelude.{◌≡◌, ℕ, ◌-◌, ◌<◌, ◌≤◌, ◌==◌, slice_index};
+ghost use Rattle.std.specs.Prelude.{◌≡◌, ℕ, ◌-◌, ◌<◌, ◌≤◌, ◌==◌, length, ◌≢◌, slice_index};
 ghost use Rattle.poly.specs.Rules.{Zero, One, Constant};
 ghost use Rattle.poly.specs.Values.{at, size, coefficients};
 
 use super::{Poly, Raw};
+
+// How many of these coefficients there are up to the last that is not 0.
+fn reach(coeffs: &[u32]) -> usize
+    ensures within { result ≤ length coeffs.now }
+    ensures past { (k : ℕ) → result ≤ k → slice_index coeffs.now k ≡ 0 }
+    ensures top { 0 < result → slice_index coeffs.now (result - 1) ≢ 0 }
+{
+    let top = coeffs.iter().rposition(|c| *c != 0);
+    top.map_or(0, |top| top + 1)
+}
 
 // The polynomial of these coefficients, which are 0 from `end` on: its length is found from there down.
 pub(super) fn normal(coeffs: [u32; 128], end: usize) -> Poly
@@ -11,13 +21,13 @@ pub(super) fn normal(coeffs: [u32; 128], end: usize) -> Poly
     requires ended { (k : ℕ) → end ≤ k → slice_index coeffs k ≡ 0 }
     ensures { result.raw.coeffs ≡ coeffs }
 {
-    let top = coeffs[..end].iter().rposition(|c| *c != 0);
-    let len = top.map_or(0, |top| top + 1);
+    let len = reach(&coeffs[..end]);
     let raw = Raw { coeffs, len };
     Poly { raw }
 }
 
-// The polynomial of the first `len` coefficients that the closure gives.
+// The polynomial of the first `len` coefficients that the closure gives. It is not made by `normal`: the array would be copied
+// twice more on its way there.
 pub(super) fn filled<C: Fn(usize) -> u32>(len: usize, coefficient: C) -> Poly
     requires within { len ≤ 128 }
     requires may { (k : ℕ) → k < len → C.pre coefficient k }
@@ -25,10 +35,12 @@ pub(super) fn filled<C: Fn(usize) -> u32>(len: usize, coefficient: C) -> Poly
     ensures past { (k : ℕ) → len ≤ k → at result k ≡ 0 }
 {
     let mut coeffs = [0u32; 128];
-    for (i, c) in coeffs[..len].iter_mut().enumerate() {
-        *c = coefficient(i);
+    for i in 0..len {
+        coeffs[i] = coefficient(i);
     }
-    normal(coeffs, len)
+    let len = reach(&coeffs[..len]);
+    let raw = Raw { coeffs, len };
+    Poly { raw }
 }
 
 impl Poly {

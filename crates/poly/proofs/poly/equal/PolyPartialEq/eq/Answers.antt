@@ -1,7 +1,8 @@
-use Rattle.std.proofs.Common.{◌≡◌, ℕ, Bool, List, Decides, nat_eq, get_or, take, sym, ap, ◌∙◌, ap₂, ext_get_or, rules}
+use Rattle.std.proofs.Common.{◌≡◌, ℕ, Bool, List, Decides, nat_eq, get_or, take, sym, ap, ◌∙◌, ap₂, ext_get_or, rules, arith}
 use Rattle.std.specs.Cmp.Lexicographic.{pointwise}
 use Rattle.std.proofs.lemmas.Bool.Decides.{Decides-eqb}
 use Rattle.std.proofs.lemmas.Slice.Eq.{bytes_eq-Decides, slice_eq-Decides}
+use Rattle.std.proofs.lemmas.Grind.{common_steps}
 use Rattle.poly.specs.Values.{coefficients}
 use Rattle.poly.specs.declared.poly.Poly.{Poly}
 use Rattle.poly.proofs.Bridge.{coefficients_at, same_size, decides}
@@ -21,5 +22,6 @@ compared xs ys r h = search (rules, bytes_eq-Decides)
 
 pub returns : goal.returns
 returns c =
-    let d = whole c.args.self.now c.args.other.now c.eq.result (c.eq.ensures ∙ ap₂ (pointwise nat_eq) c.codes.ensures c.codes-2.ensures) in
+    let e : c.eq.result ≡ pointwise nat_eq (coefficients c.args.self.now) (coefficients c.args.other.now) = grind (arith, common_steps) in
+    let d = whole c.args.self.now c.args.other.now c.eq.result e in
     record { value = compared _ _ _ d; decides = d; same = decides c.args.self.now c.args.other.now c.eq.result d }
