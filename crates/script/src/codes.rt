@@ -3,7 +3,7 @@ ghost use Rattle.std.specs.Prelude.{◌≡◌, ◌≤◌, length};
 
 mod ops;
 
-// An array with its length beside it: the kit's `ArrayVec` cannot be copied, and says nothing of its bound outside its own crate.
+// An array with its length beside it: the kit's `ArrayVec` cannot be copied, and outside its own crate its value says nothing of a bound.
 #[derive(Clone, Copy)]
 pub struct Codes {
     list: [u32; 128],
