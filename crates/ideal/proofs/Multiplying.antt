@@ -117,7 +117,7 @@ module _ {M : Meaning} (L : Lawful M) (A : Accepted L) (x y : Ideals L A) where
     pub right : Divides r s y.Q
     pub middle : Divides r s (x.P ⊕ y.P)
 
-  divisor_of : {i j : Ideal} {px z g sum pu py s : Poly} → Common M i.q j.q px z g → Sum M i.p j.p sum → Common M g sum pu py s
+  pub divisor_of : {i j : Ideal} {px z g sum pu py s : Poly} → Common M i.q j.q px z g → Sum M i.p j.p sum → Common M g sum pu py s
       → IdealIs L A i x → IdealIs L A j y → DivisorOf pu px py s
   divisor_of first sum second hi hj =
       let g = common_is L first hi.Q_is hj.Q_is in

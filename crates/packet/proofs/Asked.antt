@@ -10,6 +10,7 @@ use Rattle.packet.specs.declared.body.Body.{Body}
 use Rattle.packet.specs.declared.body.Sort.TheVariants.{Setting, Offer}
 use Rattle.packet.specs.Bodies.{bytes_of, Parts}
 use Rattle.packet.specs.Contents.{setting_asked, offer_asked}
+use Rattle.packet.proofs.Words.{word_at}
 
 -- the packet and Q's body are accepted, and P's body decides
 pub offer_answered : (q : ℕ) (x y z : List ℕ) (b c : Body) (a : Answer) → Answers (packet_asks 3 4 x) accepted → Parts Offer x b c
@@ -26,6 +27,15 @@ cut_bytes (suc n) zero [] h = tt
 cut_bytes (suc n) (suc m) [] h = tt
 cut_bytes (suc n) zero (b ∷ x) h = (h.0, cut_bytes n zero x h.1)
 cut_bytes (suc n) (suc m) (b ∷ x) h = cut_bytes (suc n) m x h.1
+
+-- the number of four bytes
+pub number_at : (b : List ℕ) → length b ≡ 4 → word_at b 0 ≡ number b
+number_at [] h = absurd (omega arith)
+number_at (i ∷ []) h = absurd (omega arith)
+number_at (i ∷ (j ∷ [])) h = absurd (omega arith)
+number_at (i ∷ (j ∷ (k ∷ []))) h = absurd (omega arith)
+number_at (i ∷ (j ∷ (k ∷ (l ∷ [])))) h = omega arith
+number_at (i ∷ (j ∷ (k ∷ (l ∷ (m ∷ b))))) h = absurd (omega arith)
 
 -- four bytes are what their number is written as
 four_bytes : (q : ℕ) (b : List ℕ) → Bytes b → length b ≡ 4 → number b ≡ q → b ≡ four q

@@ -14,9 +14,28 @@ words_length (a ∷ (b ∷ [])) = refl
 words_length (a ∷ (b ∷ (c ∷ []))) = refl
 words_length (a ∷ (b ∷ (c ∷ (d ∷ x)))) = let e = words_length x in omega arith
 
+-- the number of the four bytes from place j on
+abbrev pub word_at : List ℕ → ℕ → ℕ
+word_at b j = byte b j * 16777216 + byte b (j + 1) * 65536 + byte b (j + 2) * 256 + byte b (j + 3)
+
 -- the number of four bytes
 abbrev pub word : List ℕ → ℕ
-word w = byte w 0 * 16777216 + byte w 1 * 65536 + byte w 2 * 256 + byte w 3
+word w = word_at w 0
+
+-- a code is the number of its own four bytes of the body
+pub words_at : (b : List ℕ) (i : ℕ) → 4 * i + 4 ≤ length b → word_at b (4 * i) ≡ get_or (words b) i 0
+words_at [] i h = absurd (omega arith)
+words_at (a ∷ []) i h = absurd (omega arith)
+words_at (a ∷ (b ∷ [])) i h = absurd (omega arith)
+words_at (a ∷ (b ∷ (c ∷ []))) i h = absurd (omega arith)
+words_at (a ∷ (b ∷ (c ∷ (d ∷ x)))) zero h = omega arith
+words_at (a ∷ (b ∷ (c ∷ (d ∷ x)))) (suc i) h =
+    let y : List ℕ = a ∷ b ∷ c ∷ d ∷ x in
+    let e : (j : ℕ) → byte y (4 * suc i + j) ≡ byte x (4 * i + j) = λ j.
+    ap (byte y) (let n : 4 * suc i + j ≡ suc (suc (suc (suc (4 * i + j)))) = omega arith in n) in
+    let e₀ : byte y (4 * suc i) ≡ byte x (4 * i) = ap (byte y) (let n : 4 * suc i ≡ suc (suc (suc (suc (4 * i)))) = omega arith in n) in
+    let w = words_at x i (omega arith) in
+    omega (arith, e 1, e 2, e 3)
 
 -- the codes, four bytes by four
 pub words_chunks : (b : List ℕ) (n : ℕ) → n ≡ length b / 4 → map word (first_chunks 4 n b) ≡ words b
@@ -50,6 +69,10 @@ module _ (P : ℕ → Type 0) where
 pub leads_at : (ws : List ℕ) → Leads ws → 0 < length ws → get_or ws 0 0 ≢ 0
 leads_at [] l h = absurd (omega arith)
 leads_at (w ∷ ws) l h = l
+
+pub leads_from : (ws : List ℕ) → (0 < length ws → get_or ws 0 0 ≢ 0) → Leads ws
+leads_from [] h = tt
+leads_from (w ∷ ws) h = h (omega arith)
 
 -- four bytes 0 at the front are a first code 0
 pub zeros_lead : (b : List ℕ) → starts_with ◌==◌ b (0 ∷ 0 ∷ 0 ∷ 0 ∷ []) ≡ true → ¬ Leads (words b)

@@ -55,13 +55,12 @@ fn write(sort: Sort, first: &[u32], second: &[u32], out: &mut [u8]) -> Result<us
     if out.len() < len {
         return Err(Refusal::BufferTooSmall);
     }
-    let (packet, _) = out.split_at_mut(len);
-    let (head, bodies) = packet.split_at_mut(TABLE);
-    let (one, other) = bodies.split_at_mut(len1);
     // no body is longer than 512 bytes, so the lengths fit
-    head.copy_from_slice(&table(sort, len1 as u16, len2 as u16));
-    put(first, one);
-    put(second, other);
+    let head: &[u8] = &table(sort, len1 as u16, len2 as u16);
+    let start = head.len();
+    out[..TABLE].copy_from_slice(head);
+    put(first, &mut out[start..start + len1]);
+    put(second, &mut out[start + len1..len]);
     Ok(len)
 }
 

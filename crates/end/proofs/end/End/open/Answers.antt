@@ -1,4 +1,5 @@
-use Rattle.std.proofs.Common.{◌≡◌, length, replicate, refl, subst, rules}
+use Rattle.std.proofs.Common.{◌≡◌, length, replicate, refl, subst, rules, arith}
+use Rattle.std.proofs.lemmas.Grind.{common_steps}
 use Rattle.place.specs.Results.{Found}
 use Rattle.end.specs.declared.modes.Mode.TheVariants.{Open}
 use Rattle.end.specs.declared.end.End.{End}
@@ -27,4 +28,4 @@ returns-clause-follows g c =
     let zero : c.drop-guard-2.new.self.0 ≡ replicate (length c.args.secret.now) 0 = search rules in
     rw zero (open_made c.args.self.now c.args.secret.now ready.curve.setting c.find-place.result c.is_one.result ready.ensures.0 ready.ensures.1
     (c.is_number.ensures.0 c.if-not-is_number.false) found (rw c.ideal.ensures at c.is_one.ensures.is) c.if-is_one.false
-    after refl c.ideal-2.ensures (rw c.offset.ensures at c.keep.ensures))
+    after refl c.ideal-2.ensures (grind (arith, common_steps)))

@@ -1,5 +1,6 @@
 use Rattle.std.proofs.Common.{◌≡◌, ℕ, suc, ◌+◌, ◌<◌, ◌≢◌, length, get_or, refl, ap, ◌∙◌, add-one, List, sym, arith, length-set, get_or-set_other, get_or-set_same, below_more}
 use Rattle.std.specs.List.{IsFirstAndRest}
+use Rattle.std.proofs.lemmas.Grind.{common_steps}
 use Rattle.field.specs.Meaning.{Meaning}
 use Rattle.poly.specs.Values.{at, size, coefficients}
 use Rattle.poly.specs.declared.poly.Poly.{Poly}
@@ -38,7 +39,7 @@ loop-k-preserved g c =
       long = simp length-set c.loop-k.invariant.long;
       factor = rw add-one n_is;
       below = below_more _ _ (λ k h. let ne : k ≢ c.loop-k.k = omega arith in rw get_or-set_other (c.loop-k.invariant.below k h))
-          (rw get_or-set_same (c.mul.ensures ∙ ap (λ (y : ℕ). m.product y (get_or c.in-Some.higher.now c.loop-k.k 0)) n_is));
+          (rw get_or-set_same (grind (arith, common_steps, n_is)));
       past = λ j h. let ne : j ≢ c.loop-k.k = omega arith in rw get_or-set_other (c.loop-k.invariant.past j (omega arith));
     }
 

@@ -1,4 +1,5 @@
 use Rattle.std.proofs.Common.{ℕ, List, sym, subst, arith}
+use Rattle.std.proofs.lemmas.Grind.{common_steps}
 use Rattle.poly.specs.Rows.{Added}
 use Rattle.poly.specs.Rules.{LowLess}
 use Rattle.poly.proofs.Products.{added_past, low_less, exact_less}
@@ -7,7 +8,7 @@ use Rattle.poly.proofs.poly.Poly.minus_product.Goals as goal
 pub normal-requires : goal.normal-requires
 normal-requires g c = record {
   within = omega arith;
-  ended = λ k h. added_past c.add_product.ensures c.add_product.array_long k (λ g. omega arith) (c.args.self.now.past k (omega arith));
+  ended = λ k h. added_past c.add_product.ensures c.add_product.array_long k (λ g. omega arith) (grind (arith, common_steps));
 }
 
 pub returns : goal.returns
