@@ -57,6 +57,7 @@ fn write(sort: Sort, first: &[u32], second: &[u32], out: &mut [u8]) -> Result<us
     }
     // no body is longer than 512 bytes, so the lengths fit
     let head: &[u8] = &table(sort, len1 as u16, len2 as u16);
+    // the bodies begin where the table ends
     let start = head.len();
     out[..TABLE].copy_from_slice(head);
     put(first, &mut out[start..start + len1]);
